@@ -1,0 +1,4 @@
+pub mod Places
+pub mod Rows
+pub mod Postings
+pub mod Figures

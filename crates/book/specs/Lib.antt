@@ -1,0 +1,4 @@
+pub mod Bytes
+pub mod Place
+pub mod Posting
+pub mod Row

@@ -1,0 +1,4 @@
+pub mod Limits
+pub mod Lists
+pub mod Sum
+pub mod Word
