@@ -1,0 +1,65 @@
+// The log row that a change of a point's selections makes due.
+use crate::Turn;
+use crate::rows::differs;
+use model::Due;
+use model::LogRow;
+use state::Selection;
+use state::selections::version_of;
+ghost use mathlib.Core.Path.{_≡_};
+ghost use Prim.Native.Nat.{_+_, _*_, _≤_};
+ghost use lib.ListN.{length};
+ghost use Rattle.model.specs.Log.{logRow, dueBy, logged, usedAfter};
+ghost use Rattle.amend.specs.Lent.{RoomIn, MoreIn};
+
+pub fn log_row(day: u64, point: u64, run: u64, s: Selection) -> LogRow
+    ensures { λ r. ⌜ r ≡ logRow day point run s ⌝ }
+{
+    let version = version_of(s);
+    LogRow {
+        day,
+        point,
+        run,
+        version: version.0,
+    }
+}
+
+pub fn due_by(t: Turn, point: u64, day: u64) -> Due
+    ensures { λ r. ⌜ r ≡ dueBy (t .old1) (t .new1) (t .old2) (t .new2) point day ⌝ }
+{
+    let old1 = t.old1;
+    let new1 = t.new1;
+    let old2 = t.old2;
+    let new2 = t.new2;
+    if differs(old1, new1) {
+        return Due::Row(log_row(day, point, 1, new1));
+    }
+    if differs(old2, new2) {
+        return Due::Row(log_row(day, point, 2, new2));
+    }
+    Due::Nothing
+}
+
+pub fn used_after(due: Due, used: u64) -> u64
+    requires { ⌜ MoreIn used due ⌝ }
+    ensures { λ r. ⌜ r ≡ usedAfter due used ⌝ }
+{
+    let Due::Row(_) = due else {
+        return used;
+    };
+    used + 1
+}
+
+// Four numbers to a row.
+pub fn put_row(log: &mut [u64], used: usize, due: Due)
+    requires { ⌜ RoomIn used (now log) due ⌝ }
+    ensures { λ _. ⌜ now (log .exit) ≡ logged used due (now (log .entry)) ⌝ }
+{
+    let Due::Row(r) = due else {
+        return;
+    };
+    let at = 4 * used;
+    log[at] = r.day;
+    log[at + 1] = r.point;
+    log[at + 2] = r.run;
+    log[at + 3] = r.version;
+}

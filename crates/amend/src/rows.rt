@@ -1,0 +1,115 @@
+// The rows of the book that a change of a selection touches: each is lent on to be written, the others stay.
+use book::Way;
+use book::place::row_start;
+use book::posting::post;
+use book::posting::repost;
+use book::row::opposite;
+use model::Place;
+use model::Side;
+use model::Sides;
+use state::Selection;
+ghost use mathlib.Core.Path.{_≡_};
+ghost use Prim.Native.Nat.{_+_, _≤_, _<_};
+ghost use lib.ListN.{length};
+ghost use Rattle.book.specs.declared.Way.the-variants.{In, Out};
+ghost use Rattle.model.specs.Log.{differ};
+ghost use Rattle.model.specs.Step.{postFrom, amendRow, amendSide, amendSides};
+ghost use Rattle.amend.specs.Lent.{PlaceIn, BookIn, SideIn, SidesIn};
+
+pub fn post_from(way: Way, book: &mut [u64], start: usize, q: usize, values: &[u64], from: Place)
+    requires { ⌜ start + q ≤ length (now book) ⌝ }
+    requires { ⌜ PlaceIn q (now values) from ⌝ }
+    ensures { λ _. ⌜ now (book .exit) ≡ postFrom way (now (book .entry)) start q (now (values .entry)) from ⌝ }
+{
+    let Place::At(at) = from else {
+        return;
+    };
+    post(way, book, start, q, values, at as usize);
+}
+
+// Row k of a run: the old series is taken back, and the new one posted; in one pass where there are both.
+pub fn amend_row(
+    way: Way,
+    run: usize,
+    k: u64,
+    q: usize,
+    old: Place,
+    new: Place,
+    values: &[u64],
+    book: &mut [u64],
+)
+    requires { ⌜ BookIn run q (now book) × (k < 81) ⌝ }
+    requires { ⌜ PlaceIn q (now values) old × PlaceIn q (now values) new ⌝ }
+    ensures { λ _. ⌜ now (book .exit) ≡ amendRow way run q k old new (now (values .entry)) (now (book .entry)) ⌝ }
+{
+    let start = row_start(run, k as usize, q);
+    let Place::At(from) = old else {
+        post_from(way, book, start, q, values, new);
+        return;
+    };
+    let Place::At(to) = new else {
+        post(opposite(way), book, start, q, values, from as usize);
+        return;
+    };
+    repost(way, book, start, q, values, from as usize, to as usize);
+}
+
+pub fn amend_side(
+    way: Way,
+    run: usize,
+    side: Side,
+    q: usize,
+    old: Place,
+    new: Place,
+    values: &[u64],
+    book: &mut [u64],
+)
+    requires { ⌜ BookIn run q (now book) × SideIn side ⌝ }
+    requires { ⌜ PlaceIn q (now values) old × PlaceIn q (now values) new ⌝ }
+    ensures { λ _. ⌜ now (book .exit) ≡ amendSide way run q side old new (now (values .entry)) (now (book .entry)) ⌝ }
+{
+    match side {
+        Side::Outside => {}
+        Side::Group(g) => amend_row(way, run, g, q, old, new, values, book),
+        Side::Delta { delta, group } => {
+            amend_row(way, run, delta, q, old, new, values, book);
+            amend_row(way, run, group, q, old, new, values, book);
+        }
+    }
+}
+
+// A series goes into its one side and out of the other.
+pub fn amend_sides(
+    run: usize,
+    sides: Sides,
+    q: usize,
+    old: Place,
+    new: Place,
+    values: &[u64],
+    book: &mut [u64],
+)
+    requires { ⌜ BookIn run q (now book) × SidesIn sides ⌝ }
+    requires { ⌜ PlaceIn q (now values) old × PlaceIn q (now values) new ⌝ }
+    ensures { λ _. ⌜ now (book .exit) ≡ amendSides run q sides old new (now (values .entry)) (now (book .entry)) ⌝ }
+{
+    let to = sides.to;
+    let from = sides.from;
+    amend_side(Way::In, run, to, q, old, new, values, book);
+    amend_side(Way::Out, run, from, q, old, new, values, book);
+}
+
+// Another version is selected than before.
+pub fn differs(a: Selection, b: Selection) -> bool
+    ensures { λ r. ⌜ r ≡ differ a b ⌝ }
+{
+    match a {
+        Selection::None => match b {
+            Selection::None => false,
+            Selection::Selected(_) => true,
+        },
+        Selection::Selected(r) => match b {
+            Selection::None => true,
+            Selection::Selected(s) => !((r.at == s.at) & (r.version.0 == s.version.0)),
+        },
+    }
+}

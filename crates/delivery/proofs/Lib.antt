@@ -1,0 +1,4 @@
+pub mod Allowed
+pub mod Checked
+pub mod Grants
+pub mod Noticing

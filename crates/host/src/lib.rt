@@ -1,0 +1,3 @@
+// What the host program, written in C, reads: plain numbers and byte slices.
+pub mod figure;
+pub mod file;

@@ -1,0 +1,126 @@
+// The limits of the state: the one test behind cause 1, for any state whatever.
+use crate::points::scan;
+use crate::surveys::survey;
+use quantity::Day;
+use quantity::PointNo;
+use quantity::Version;
+use quantity::limits::VERSIONS;
+use quantity::limits::area_ok;
+use quantity::limits::day_ok;
+use quantity::limits::deadlines_ok;
+use quantity::limits::group_ok;
+use quantity::limits::point_ok;
+use quantity::limits::quarters_ok;
+use quantity::limits::version_ok;
+use state::Desk;
+use state::Opening;
+use state::PointRecord;
+use state::PointState;
+use state::VersionRecord;
+ghost use mathlib.Core.Path.{_≡_};
+ghost use Rattle.quantity.specs.Limits.{groupOk};
+ghost use Rattle.quantity.specs.Lists.{all};
+ghost use Rattle.state.specs.Desk.{rowsIn};
+ghost use Rattle.state.specs.Point.{seriesOk};
+ghost use Rattle.state.specs.Valid.{openingOk, pointRecordOk, versionRecordOk, frameOk, validDesk};
+
+pub fn series_ok(kind: u64, area: u64, partner: u64) -> bool
+    ensures { λ r. ⌜ r ≡ seriesOk kind area partner ⌝ }
+{
+    if kind == 1 {
+        return area_ok(area) & (partner < area);
+    }
+    if kind == 2 {
+        return area_ok(area) & group_ok(partner);
+    }
+    if kind == 3 {
+        return area_ok(area) & (partner == 0);
+    }
+    if kind == 4 {
+        return (area == 0) & group_ok(partner);
+    }
+    if kind == 5 {
+        return area_ok(area) & (partner == 0);
+    }
+    false
+}
+
+pub fn point_record_ok(p: PointRecord) -> bool
+    ensures { λ r. ⌜ r ≡ pointRecordOk p ⌝ }
+{
+    let s = p.state;
+    match s {
+        PointState::Free => true,
+        PointState::Active {
+            since,
+            kind,
+            area,
+            partner,
+        } => {
+            day_ok(Day(since.0 as u64)) & series_ok(kind.0 as u64, area.0 as u64, partner.0 as u64)
+        }
+    }
+}
+
+pub fn version_record_ok(v: VersionRecord, rows: u64) -> bool
+    ensures { λ r. ⌜ r ≡ versionRecordOk rows v ⌝ }
+{
+    let version = v.version;
+    point_ok(PointNo(v.point.0 as u64)) & (version_ok(version) & ((v.row.0 as u64) < rows))
+}
+
+pub fn opening_ok(o: Opening) -> bool
+    ensures { λ r. ⌜ r ≡ openingOk o ⌝ }
+{
+    let first = o.first;
+    let clearing = o.clearing;
+    let correction = o.correction;
+    if !quarters_ok(o.quarters) {
+        return false;
+    }
+    deadlines_ok(first, clearing, correction) & ((o.book == 162 * o.quarters) & (o.log % 4 == 0))
+}
+
+pub fn groups_ok(groups: [u64; 17]) -> bool
+    ensures { λ r. ⌜ r ≡ all groupOk groups ⌝ }
+{
+    let mut ok = true;
+    for i in 0..17usize {
+        ok = ok & group_ok(groups[i]);
+    }
+    ok
+}
+
+// How many rows the values have: none before the opening.
+pub fn rows_in(o: Opening) -> u64
+    ensures { λ r. ⌜ r ≡ rowsIn o ⌝ }
+{
+    if o.quarters == 0 {
+        return 0;
+    }
+    o.values / o.quarters
+}
+
+pub fn frame_ok(d: Desk) -> bool
+    ensures { λ r. ⌜ r ≡ frameOk d ⌝ }
+{
+    let opening = d.opening;
+    let day = d.day;
+    let groups = d.groups;
+    opening_ok(opening)
+        & (day_ok(day)
+            & (groups_ok(groups)
+                & ((d.count <= VERSIONS)
+                    & ((d.count <= rows_in(opening)) & (d.used <= opening.log / 4)))))
+}
+
+pub fn valid(d: Desk) -> bool
+    ensures { λ r. ⌜ r ≡ validDesk d ⌝ }
+{
+    let opening = d.opening;
+    let points = d.points;
+    let versions = d.versions;
+    let found = survey(versions, d.count, rows_in(opening), PointNo(0), Version(0));
+    let seen = scan(points, 0, 0, 0);
+    frame_ok(d) & (seen.fit & found.fit)
+}

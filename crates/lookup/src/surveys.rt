@@ -1,0 +1,82 @@
+// The one walk over the versions: all that a call asks of them.
+use crate::Survey;
+use crate::limits::version_record_ok;
+use quantity::PointNo;
+use quantity::Version;
+use state::Held;
+use state::Selection;
+use state::VersionRecord;
+use state::selections::is_at;
+use state::selections::is_counted;
+use state::selections::is_version;
+use state::selections::raised_if;
+ghost use mathlib.Core.Path.{_≡_};
+ghost use lib.ListN.{take};
+ghost use Rattle.lookup.specs.Survey.{surveyStep, Surveyed};
+ghost use Rattle.state.specs.Version.{orHeld};
+
+pub fn or_held(held: Held, at: u64, v: VersionRecord, point: PointNo, version: Version) -> Held
+    ensures { λ r. ⌜ r ≡ orHeld (point .0) (version .0) held at v ⌝ }
+{
+    match held {
+        Held::Has { at: _, status: _ } => held,
+        Held::Absent => {
+            if is_version(v, point, version) {
+                let status = v.status;
+                Held::Has { at, status }
+            } else {
+                held
+            }
+        }
+    }
+}
+
+// One record more.
+pub fn surveyed(
+    s: Survey,
+    at: u64,
+    v: VersionRecord,
+    rows: u64,
+    point: PointNo,
+    version: Version,
+) -> Survey
+    ensures { λ r. ⌜ r ≡ surveyStep rows (point .0) (version .0) s at v ⌝ }
+{
+    let held = s.held;
+    let highest = s.highest;
+    let first = s.first;
+    let second = s.second;
+    let number = v.version;
+    Survey {
+        fit: s.fit & version_record_ok(v, rows),
+        held: or_held(held, at, v, point, version),
+        highest: raised_if(is_at(v, point), highest, at, number),
+        first: raised_if(is_counted(v, 1, point), first, at, number),
+        second: raised_if(is_counted(v, 2, point), second, at, number),
+    }
+}
+
+// A count above 512 means the whole table.
+pub fn survey(
+    versions: [VersionRecord; 512],
+    count: u64,
+    rows: u64,
+    point: PointNo,
+    version: Version,
+) -> Survey
+    ensures { λ r. ⌜ Surveyed rows (point .0) (version .0) (take count versions) r ⌝ }
+{
+    let mut s = Survey {
+        fit: true,
+        held: Held::Absent,
+        highest: Selection::None,
+        first: Selection::None,
+        second: Selection::None,
+    };
+    let n = if count < 512 { count as usize } else { 512 };
+    for i in 0..n {
+        let v = versions[i];
+        s = surveyed(s, i as u64, v, rows, point, version);
+    }
+    s
+}

@@ -1,0 +1,12 @@
+pub mod Calls
+pub mod Energies
+pub mod Files
+pub mod FileSteps
+pub mod Copying
+pub mod CountSteps
+pub mod Numbers
+pub mod NumberSteps
+pub mod Parsers
+pub mod Passing
+pub mod Placed
+pub mod Theorems

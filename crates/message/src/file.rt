@@ -1,0 +1,70 @@
+// A whole file: its first refusal, or none. Nothing is kept of the calls.
+use crate::FileCause;
+use crate::FileVerdict;
+use crate::NumberRead;
+use crate::Passed;
+use crate::call;
+use crate::number;
+use quantity::limits;
+ghost use mathlib.Core.Path.{_≡_};
+ghost use Prim.Native.Nat.{_≤_};
+ghost use lib.ListN.{length, drop};
+ghost use Rattle.quantity.specs.Limits.{mostQuarters};
+ghost use Rattle.message.specs.Call.{tailIn, kindIn, parse};
+ghost use Rattle.message.specs.File.{verdictOf};
+ghost use Rattle.message.specs.Offset.{passedOf};
+
+// What follows the fields of a kind.
+fn pass_tail(file: &[u8], at: usize, kind: u64) -> Passed
+    requires { ⌜ at ≤ length (now file) ⌝ }
+    ensures { λ r. ⌜ r ≡ passedOf (length (now (file .entry))) (tailIn mostQuarters kind (drop at (now (file .entry)))) ⌝ }
+{
+    if kind != call::SUBMISSION {
+        return Passed::To(at);
+    }
+    match call::read_count(file, at, limits::QUARTERS as usize) {
+        NumberRead::Number { value, next } => number::pass_numbers(file, next, value as usize),
+        NumberRead::Refused(cause) => Passed::Refused(cause),
+    }
+}
+
+// A call whose kind was read and whose fields begin at `from`.
+fn pass_kind(file: &[u8], kind: u64, from: usize) -> Passed
+    requires { ⌜ from ≤ length (now file) ⌝ }
+    ensures { λ r. ⌜ r ≡ passedOf (length (now (file .entry))) (kindIn mostQuarters kind (drop from (now (file .entry)))) ⌝ }
+{
+    if !call::kind_ok(kind) {
+        return Passed::Refused(FileCause::BadKind);
+    }
+    match number::pass_numbers(file, from, call::fields_of(kind)) {
+        Passed::To(after) => pass_tail(file, after, kind),
+        Passed::Refused(cause) => Passed::Refused(cause),
+    }
+}
+
+// The offset behind the call at an offset.
+fn pass_call(file: &[u8], at: usize) -> Passed
+    ensures { λ r. ⌜ r ≡ passedOf (length (now (file .entry))) (parse mostQuarters (drop at (now (file .entry)))) ⌝ }
+{
+    match number::read_number(file, at) {
+        NumberRead::Number { value, next } => pass_kind(file, value, next),
+        NumberRead::Refused(cause) => Passed::Refused(cause),
+    }
+}
+
+pub fn check_file(file: &[u8]) -> FileVerdict
+    ensures { λ r. ⌜ r ≡ verdictOf (now (file .entry)) ⌝ }
+{
+    let mut at = 0;
+    while at < file.len() {
+        match pass_call(file, at) {
+            Passed::To(next) => {
+                at = next;
+            }
+            Passed::Refused(cause) => {
+                return FileVerdict::Refused { cause, offset: at };
+            }
+        }
+    }
+    FileVerdict::Whole { length: file.len() }
+}

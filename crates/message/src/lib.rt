@@ -1,0 +1,84 @@
+// The message file: numbers, energies, calls, whole files. What is read and what is written are each other's inverse.
+pub mod call;
+pub mod cause;
+pub mod energy;
+pub mod file;
+pub mod number;
+
+use quantity::Day;
+use quantity::PointNo;
+use quantity::Version;
+
+// Why a file or a call is refused: 31 to 35 of the table of causes.
+pub enum FileCause {
+    // The file ends inside a call.
+    Cut,
+    // A number that is not in its shortest form, or whose ninth byte has the top bit set.
+    NotShortest,
+    // A kind that is not one of the calls'.
+    BadKind,
+    // A series of more than 2,980 energies; from the writer also a number that a file cannot carry.
+    TooLarge,
+    // More energies than the series buffer holds; from the writer: an output that is too short.
+    NoRoom,
+}
+
+// A number of the file and the offset behind it.
+pub enum NumberRead {
+    Number { value: u64, next: usize },
+    Refused(FileCause),
+}
+
+// The offset behind what was passed over.
+pub enum Passed {
+    To(usize),
+    Refused(FileCause),
+}
+
+// The verdict on a whole file: its length, or the first refusal with the offset of the refused call.
+pub enum FileVerdict {
+    Whole { length: usize },
+    Refused { cause: FileCause, offset: usize },
+}
+
+// A call by its kind. An opening's 17 delta groups stand beside it, and a submission's energies in the series buffer.
+pub enum FileCall {
+    Open {
+        quarters: u64,
+        first: Day,
+        clearing: Day,
+        correction: Day,
+    },
+    Activate {
+        point: PointNo,
+        kind: u64,
+        area: u64,
+        partner: u64,
+        day: Day,
+    },
+    Deactivate {
+        point: PointNo,
+        day: Day,
+    },
+    Submit {
+        point: PointNo,
+        version: Version,
+        day: Day,
+        count: usize,
+    },
+    Notice {
+        point: PointNo,
+        version: Version,
+        verdict: u64,
+        day: Day,
+    },
+    Assign {
+        area: u64,
+        group: u64,
+        day: Day,
+    },
+    Settle {
+        run: u64,
+        day: Day,
+    },
+}

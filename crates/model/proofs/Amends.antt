@@ -1,0 +1,100 @@
+-- The book follows the exact figures: after a change of the versions of a point. Assumes nothing.
+use Prim.Native.Nat.{ℕ, _*_, _≤_, _<_}
+use mathlib.Core.Path.{_≡_, refl, sym, ap, _∙_}
+use mathlib.Core.Bool.{Bool, true, false, cond}
+use mathlib.Core.List.{List, []}
+use native.Mathlib.Omega.{arith}
+use native.Mathlib.Decide.{ℕ-discrete}
+use lib.Dec.{eqb}
+use lib.IntN.{ℤ, pos, negℤ, _+ℤ_, _-ℤ_, +ℤ-assoc, +ℤ-comm, +ℤ-idr, +ℤ-invr}
+use lib.ListN.{length, getD}
+use Rattle.quantity.specs.Limits.{points, runs, groupOk, energyOk}
+use Rattle.quantity.specs.Lists.{all}
+use Rattle.quantity.proofs.Tests.{by-test}
+use Rattle.state.specs.Point.{pointAt}
+use Rattle.state.specs.Selection.{own, selected}
+use Rattle.state.specs.Valid.{pointRecordOk}
+use Rattle.state.specs.Version.{recordAt}
+use Rattle.state.specs.declared.PointRecord.{PointRecord}
+use Rattle.state.specs.declared.Selection.{Selection}
+use Rattle.state.specs.declared.Selection.the-variants.{None, Selected}
+use Rattle.state.specs.declared.VersionRecord.{VersionRecord}
+use Rattle.model.specs.Log.{differ}
+use Rattle.model.specs.Series.{sidesOf, adds, energy, figureOf}
+use Rattle.model.specs.Step.{placeOf, amendRun, amended}
+use Rattle.model.specs.declared.Sides.{Sides}
+use Rattle.model.proofs.Books.{Figures, Booked, booked-same, Reads, Holding, amend-sides}
+use Rattle.model.proofs.Figures.{part, figure-follows, state-in}
+use Rattle.model.proofs.Logs.{differ-not}
+use Rattle.model.proofs.Selections.{Within, selected-within}
+use Rattle.model.proofs.SeriesTable.{InBook, in-book, shaped, adds-zero, adds-minus}
+
+-- each version's row of values has the submission's energies as words; in the base, row i is submission i's
+pub record Stored (q : ℕ) (values : List ℕ) (vs : List VersionRecord) (es : List (List ℤ)) : Type 0 where
+  pub long : length es ≡ length vs
+  pub small : (i j : ℕ) → energyOk (getD (getD es i []) j (pos 0)) ≡ true
+  pub rows : (i : ℕ) → i < length vs → recordAt vs i .row .0 ≡ i
+  pub reads : (i : ℕ) → i < length vs → Reads q values (recordAt vs i .row .0 * q) (λ (j : ℕ). getD (getD es i []) j (pos 0))
+
+within-more : (m n : ℕ) → m ≤ n → (s : Selection) → Within m s → Within n s
+within-more m n h None w = tt
+within-more m n h (Selected r) w = omega arith
+
+module _ (q : ℕ) (values : List ℕ) (ws : List VersionRecord) (es : List (List ℤ)) (S : Stored q values ws es) where
+  holding : (s : Selection) → Within (length ws) s → Holding q values (placeOf q ws s) (energy es s)
+  unfolding placeOf energy
+  holding None w = λ j. refl
+  holding (Selected r) w = S .reads (r .at) w
+
+  -- one run
+  amend-run : (run : ℕ) → 1 ≤ run → run ≤ runs → (s : Sides) → InBook (s .to) → InBook (s .from) → (old new : Selection) → Within (length ws) old → Within (length ws) new
+      → (book : List ℕ) (F : Figures) → Booked q book F
+      → Booked q (amendRun run q s ws old new values book) (λ r m j. F r m j +ℤ cond (eqb run r) (adds s m (energy es new j -ℤ energy es old j)) (pos 0))
+  unfolding amendRun
+  amend-run run lo hi s x y old new wo wn book F B =
+      by-test (λ (l : List ℕ). Booked q l after) (differ old new) _ book
+      (λ e. amend-sides q run lo hi values (placeOf q ws old) (placeOf q ws new) (energy es old) (energy es new) (holding old wo) (holding new wn) s x y book F B)
+      (λ e. booked-same q book F after (λ r m j _ _ _ _. sym (stays (differ-not old new e) (eqb run r) (F r m j) m j)) B)
+    where
+      after : Figures
+      after = λ r m j. F r m j +ℤ cond (eqb run r) (adds s m (energy es new j -ℤ energy es old j)) (pos 0)
+
+      stays : old ≡ new → (t : Bool) (f : ℤ) (m j : ℕ) → f +ℤ cond t (adds s m (energy es new j -ℤ energy es old j)) (pos 0) ≡ f
+      stays e true f m j = ap (λ (o : Selection). f +ℤ adds s m (energy es new j -ℤ energy es o j)) e ∙ rw (+ℤ-invr (energy es new j), adds-zero s m) (+ℤ-idr f)
+      stays e false f m j = +ℤ-idr f
+
+  -- both runs, at a point whose versions changed
+  pub follow : (ps : List PointRecord) (gs : List ℕ) → all pointRecordOk ps ≡ true → all groupOk gs ≡ true → (p : ℕ) → 1 ≤ p → p ≤ points → (vs : List VersionRecord) → length vs ≤ length ws
+      → ((r i : ℕ) → (i ≡ p → ⊥) → own r i ws ≡ own r i vs) → (book : List ℕ) → Booked q book (figureOf ps gs vs es)
+      → Booked q (amended q (sidesOf gs (pointAt ps p)) p vs ws values book) (figureOf ps gs ws es)
+  unfolding amended
+  follow ps gs inP inG p lo hi vs few e book B =
+      booked-same q _ _ (figureOf ps gs ws es) (λ r m j a b _ _. both r m j a b (ℕ-discrete r 1))
+      (amend-run 2 (omega arith) (omega arith) s x y (selected 2 p vs) (selected 2 p ws) (before 2) (selected-within 2 p ws) _ _
+      (amend-run 1 (omega arith) (omega arith) s x y (selected 1 p vs) (selected 1 p ws) (before 1) (selected-within 1 p ws) book (figureOf ps gs vs es) B))
+    where
+      s : Sides
+      s = sidesOf gs (pointAt ps p)
+
+      x : InBook (s .to)
+      x = in-book gs inG (shaped (pointAt ps p) (state-in ps inP p) .to)
+
+      y : InBook (s .from)
+      y = in-book gs inG (shaped (pointAt ps p) (state-in ps inP p) .from)
+
+      before : (run : ℕ) → Within (length ws) (selected run p vs)
+      before run = within-more (length vs) (length ws) few (selected run p vs) (selected-within run p vs)
+
+      A : (r m j : ℕ) → ℤ
+      A r m j = adds s m (energy es (selected r p ws) j -ℤ energy es (selected r p vs) j)
+
+      swap : (f u v : ℤ) → f +ℤ (u -ℤ v) ≡ f -ℤ v +ℤ u
+      swap f u v = cc (+ℤ-comm u (negℤ v), +ℤ-assoc f (negℤ v) u)
+
+      one : (r m j : ℕ) → figureOf ps gs vs es r m j +ℤ A r m j ≡ figureOf ps gs ws es r m j
+      one r m j =
+          cc (adds-minus s m (energy es (selected r p ws) j) (energy es (selected r p vs) j), swap (figureOf ps gs vs es r m j) (part ps gs ws es r m j p) (part ps gs vs es r m j p), figure-follows ps gs vs ws es p lo hi e r m j)
+
+      both : (r m j : ℕ) → 1 ≤ r → r ≤ runs → Dec (r ≡ 1) → figureOf ps gs vs es r m j +ℤ cond (eqb 1 r) (A 1 m j) (pos 0) +ℤ cond (eqb 2 r) (A 2 m j) (pos 0) ≡ figureOf ps gs ws es r m j
+      both r m j a b (yes z) = rw z (+ℤ-idr (figureOf ps gs vs es 1 m j +ℤ A 1 m j) ∙ one 1 m j)
+      both r m j a b (no ne) = let z : r ≡ 2 = omega arith in rw z (rw (+ℤ-idr (figureOf ps gs vs es 2 m j)) (one 2 m j))

@@ -1,0 +1,129 @@
+-- The desk before its opening, and the opening. Assumes nothing.
+use Prim.Native.Nat.{ℕ, _*_}
+use mathlib.Core.Path.{_≡_, refl, sym, ap, _∙_, subst}
+use mathlib.Core.Bool.{Bool, true, false, true≢false}
+use mathlib.Core.List.{List, [], _∷_}
+use native.Mathlib.Omega.{arith}
+use borrow.Author.Tests.{eqb-true}
+use lib.Dec.{eqb}
+use lib.IntN.{pos}
+use lib.ListN.{length, replicate, length-replicate}
+use Rattle.quantity.specs.Limits.{bookRows, deltas}
+use Rattle.quantity.specs.Lists.{all, fold}
+use Rattle.quantity.specs.Word.{word}
+use Rattle.quantity.proofs.Tests.{and-left, and-right}
+use Rattle.state.specs.Desk.{freshDesk, openDesk}
+use Rattle.state.specs.Point.{freePoint}
+use Rattle.state.specs.Valid.{openingOk, frameOk, validDesk}
+use Rattle.state.specs.declared.Desk.{Desk}
+use Rattle.model.specs.Agreement.{Running, next, fresh, Agree}
+use Rattle.model.specs.Call.{Call, opens, activates, deactivates, submits, notices, assigns, shows, asks, settles, Stores, lengthsOf, Lent, Told, told, Reply}
+use Rattle.model.specs.Causes.{orIf, firstOf, openingBy, opensOk, refusal}
+use Rattle.model.specs.Log.{due, addRow, logNumbers}
+use Rattle.model.specs.Plain.{openingOf, dayOf, pointsOf, groupsOf, versionsOf, energiesOf, logOf, settledOf, viewIn, answered, joined, plainReply, plainNext}
+use Rattle.model.specs.Step.{withBook, refusalBy, decided, step, replyOf}
+use Rattle.model.specs.declared.Due.{Due}
+use Rattle.model.specs.declared.Due.the-variants.{Nothing}
+use Rattle.model.proofs.Figures.{figure-none}
+use Rattle.model.proofs.Invariant.{Holds, Granted, holds-open, book-is}
+use Rattle.model.proofs.Lending.{left-every}
+use Rattle.model.proofs.Lists.{zeros-at}
+use Rattle.model.proofs.Logs.{due-same}
+use Rattle.model.proofs.Points.{selected-none}
+
+-- the desk before its opening, and after it
+pub data State (r : Running) (h : List Told) : Type 0 where
+  before : r .desk ≡ freshDesk → h ≡ [] → State r h
+  after : Holds (r .desk) (r .stores) h → State r h
+
+zero-word : word (pos 0) ≡ 0
+unfolding word
+zero-word = refl
+
+-- "Book all 0; all points free, no versions, no log rows used; values and log untouched."
+module _ (q f c k : ℕ) (gs : List ℕ) (st : Stores) (ok : opensOk (openingBy q f c k (lengthsOf st)) gs ≡ true) where
+  opened-holds : Holds (openDesk (openingBy q f c k (lengthsOf st)) gs) (withBook st (replicate (bookRows * q) 0)) (record { call = opens q f c k gs; lengths = lengthsOf st } ∷ [])
+  unfolding opensOk all viewIn openingOf dayOf pointsOf groupsOf versionsOf energiesOf logOf settledOf logNumbers
+  opened-holds =
+      let o = openingBy q f c k (lengthsOf st) in
+      let rest = and-right (openingOk o) _ ok in
+      let quiet : due [] [] 0 0 ≡ Nothing = due-same [] [] 0 0 (λ r. refl) in
+      record {
+        table = record { size = refl; count = omega arith };
+        view = ap (λ (x : Due). record { opening = o; day = 0; points = replicate 256 freePoint; versions = []; used = length (addRow x []); settled = record { first = false; second = false } }) (sym quiet);
+        groups = refl;
+        kept =
+            record {
+              framed = record { opening = and-left (openingOk o) _ ok; day = refl; used = omega arith };
+              grouped = record { each = and-right (eqb (length gs) deltas) _ rest; size = eqb-true (length gs) deltas (and-left (eqb (length gs) deltas) _ rest) };
+              pointed = record { each = refl; size = refl };
+              versioned = record { count = omega arith; rows = omega arith; each = refl; homes = refl };
+              stored = record { long = refl; small = λ i j. refl; rows = λ i h. absurd (omega arith); reads = λ i h. absurd (omega arith) };
+              booked =
+                  record {
+                    size = length-replicate (bookRows * q) 0;
+                    at = λ run r j _ _ _ _. zeros-at (bookRows * q) _ ∙ sym zero-word ∙ ap word (sym (figure-none (replicate 256 freePoint) gs [] [] (λ x p. selected-none p [] refl x) run r j));
+                  };
+              valuesLong = refl;
+              logLong = refl;
+              logged = ap (λ (x : Due). logNumbers (addRow x [])) (sym quiet);
+            };
+      }
+
+-- what is to be shown of a call on an unopened desk
+Step : Stores → Lent → Type 0
+Step s l = (replyOf (step freshDesk l) ≡ plainReply [] (told l)) × State (next (fresh s) l) (plainNext [] (told l))
+
+fresh-opens : (s st : Stores) (q f c k : ℕ) (gs : List ℕ) → Step s (record { call = opens q f c k gs; stores = st })
+unfolding Step step decided next plainReply plainNext answered joined refusalBy refusal firstOf fold orIf viewIn openingOf
+fresh-opens s st q f c k gs = go (opensOk (openingBy q f c k (lengthsOf st)) gs) refl
+  where
+    go : (t : Bool) → opensOk (openingBy q f c k (lengthsOf st)) gs ≡ t → Step s (record { call = opens q f c k gs; stores = st })
+    go false e = rw e (refl, before refl refl)
+    go true e =
+        let o = openingBy q f c k (lengthsOf st) in
+        let H = opened-holds q f c k gs st e in
+        rw e (refl, after (rw (left-every o s (withBook st (replicate (bookRows * q) 0)) refl (H .kept .booked .size ∙ sym (book-is o (H .kept .framed .opening))) refl) H))
+
+fresh-base : (s st : Stores) (c : Call) → Step s (record { call = c; stores = st })
+unfolding Step step decided next plainReply plainNext answered joined refusalBy refusal firstOf fold orIf viewIn openingOf validDesk frameOk openingOk
+fresh-base s st (opens q f c k gs) = fresh-opens s st q f c k gs
+fresh-base s st (activates p k a b e) = (refl, before refl refl)
+fresh-base s st (deactivates p e) = (refl, before refl refl)
+fresh-base s st (submits p x e es) = (refl, before refl refl)
+fresh-base s st (notices p x y e) = (refl, before refl refl)
+fresh-base s st (assigns a g e) = (refl, before refl refl)
+fresh-base s st (shows r g) = (refl, before refl refl)
+fresh-base s st (asks p x) = (refl, before refl refl)
+fresh-base s st (settles r e) = (refl, before refl refl)
+
+-- one call on an unopened desk
+pub fresh-step : (r : Running) (h : List Told) (l : Lent) → r .desk ≡ freshDesk → h ≡ [] → (replyOf (step (r .desk) l) ≡ plainReply h (told l)) × State (next r l) (plainNext h (told l))
+unfolding Step
+fresh-step r h l a b =
+    subst (λ (g : List Told). (replyOf (step (r .desk) l) ≡ plainReply g (told l)) × State (next r l) (plainNext g (told l))) (sym b)
+    (subst (λ (d : Desk). (replyOf (step d l) ≡ plainReply [] (told l)) × State (next (record { desk = d; stores = r .stores }) l) (plainNext [] (told l))) (sym a)
+    (fresh-base (r .stores) (l .stores) (l .call)))
+
+-- an unopened desk has nothing, and so has the plain one
+none-yet : (given plain : List Reply) (s : Stores) → given ≡ plain → Agree given (fresh s) plain []
+unfolding versionsOf openingOf logOf logNumbers
+none-yet given plain s e =
+    record {
+      answers = e;
+      opening = refl;
+      versions = refl;
+      log = refl;
+      figures = λ run k q _ _ _ l. absurd (omega arith);
+      sum = λ run q _ _ l. absurd (omega arith);
+      plainSum = λ run q _ _ l. absurd (omega arith);
+    }
+
+pub fresh-agree : (given plain : List Reply) (r : Running) (h : List Told) → given ≡ plain → r .desk ≡ freshDesk → h ≡ [] → Agree given r plain h
+fresh-agree given plain r h e a b =
+    subst (λ (g : List Told). Agree given r plain g) (sym b)
+    (subst (λ (d : Desk). Agree given (record { desk = d; stores = r .stores }) plain []) (sym a) (none-yet given plain (r .stores) e))
+
+-- an opened desk refuses another opening, so nothing is left to show
+pub open-granted : (q f c k : ℕ) (gs : List ℕ) → Granted (opens q f c k gs)
+open-granted q f c k gs d s h st H o P = absurd (true≢false (sym (holds-open d s h H) ∙ P .0))

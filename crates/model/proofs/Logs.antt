@@ -1,0 +1,103 @@
+-- Laws of the log: when a row is due and which, and a row more. Assumes nothing.
+use Prim.Native.Nat.{ℕ, _+_, _*_, _≤_}
+use mathlib.Core.Path.{_≡_, refl, sym, ap, _∙_}
+use mathlib.Core.Bool.{Bool, true, false, cond, true≢false}
+use mathlib.Core.Logic.{_⊎_, inl, inr}
+use mathlib.Core.List.{List, [], _∷_, _++_, append-assoc}
+use native.Mathlib.Omega.{arith}
+use borrow.Author.Tests.{ltb-false, eqb-true, eq-eqb, not-false}
+use lib.Dec.{eqb}
+use lib.ListN.{length, take, drop, length-append}
+use lib.Seq.{take-at, length-take-le}
+use Rattle.quantity.proofs.Tests.{and-left, and-right}
+use Rattle.book.specs.Row.{splice}
+use Rattle.book.proofs.Rows.{length-splice}
+use Rattle.state.specs.Selection.{own}
+use Rattle.state.specs.declared.Selection.{Selection}
+use Rattle.state.specs.declared.Selection.the-variants.{None, Selected}
+use Rattle.state.specs.declared.VersionRecord.{VersionRecord}
+use Rattle.model.specs.Causes.{logFull}
+use Rattle.model.specs.Log.{sameRow, differ, logRow, due, addRow, logWords, logNumbers, logged, usedAfter}
+use Rattle.model.specs.declared.Due.{Due}
+use Rattle.model.specs.declared.Due.the-variants.{Nothing, Row}
+use Rattle.model.specs.declared.LogRow.{LogRow}
+
+differ-same : (s : Selection) → differ s s ≡ false
+unfolding differ
+differ-same None = refl
+differ-same (Selected r) = rw (eq-eqb (r .at) (r .at) refl, eq-eqb (r .version .0) (r .version .0) refl)
+
+-- what is selected as before is the same row
+pub differ-not : (o n : Selection) → differ o n ≡ false → o ≡ n
+unfolding differ
+differ-not None None e = refl
+differ-not None (Selected s) e = absurd (true≢false e)
+differ-not (Selected r) None e = absurd (true≢false e)
+differ-not (Selected r) (Selected s) e =
+    let same : sameRow r s ≡ true = not-false (sameRow r s) e in
+    let at : r .at ≡ s .at = eqb-true (r .at) (s .at) (and-left (eqb (r .at) (s .at)) _ same) in
+    let no : r .version .0 ≡ s .version .0 = eqb-true (r .version .0) (s .version .0) (and-right (eqb (r .at) (s .at)) _ same) in
+    λ i. Selected (record { at = at i; version = record { 0 = no i } })
+
+no-row : {A : Type 0} {r : LogRow} → _≡_ {A = Due} (Row r) Nothing → A
+no-row e = let z : _≡_ {A = ℕ} 0 1 = cc in absurd (omega arith)
+
+same-row : (r s : LogRow) → _≡_ {A = Due} (Row r) (Row s) → r ≡ s
+same-row r s e = cc
+
+-- where a point's selections stay, no row is due
+pub due-same : (vs ws : List VersionRecord) (p d : ℕ) → ((r : ℕ) → own r p ws ≡ own r p vs) → due vs ws p d ≡ Nothing
+unfolding due
+due-same vs ws p d e = rw (e 1, e 2, differ-same (own 1 p vs), differ-same (own 2 p vs))
+
+-- and where no row is due, both stay: "When run 1's selection or run 2's own changes, the log gains a row"
+pub due-nothing : (vs ws : List VersionRecord) (p d : ℕ) → due vs ws p d ≡ Nothing → (own 1 p vs ≡ own 1 p ws) × (own 2 p vs ≡ own 2 p ws)
+unfolding due
+due-nothing vs ws p d = go (differ (own 1 p vs) (own 1 p ws)) (differ (own 2 p vs) (own 2 p ws)) refl refl
+  where
+    go : (a b : Bool) → differ (own 1 p vs) (own 1 p ws) ≡ a → differ (own 2 p vs) (own 2 p ws) ≡ b
+        → cond a (Row (logRow d p 1 (own 1 p ws))) (cond b (Row (logRow d p 2 (own 2 p ws))) Nothing) ≡ Nothing → (own 1 p vs ≡ own 1 p ws) × (own 2 p vs ≡ own 2 p ws)
+    go true b x y e = no-row e
+    go false true x y e = no-row e
+    go false false x y e = (differ-not (own 1 p vs) (own 1 p ws) x, differ-not (own 2 p vs) (own 2 p ws) y)
+
+-- a row that is due has the day, the point, and the run whose selection changed with its new version
+pub due-row : (vs ws : List VersionRecord) (p d : ℕ) (r : LogRow) → due vs ws p d ≡ Row r → (r ≡ logRow d p 1 (own 1 p ws)) ⊎ (r ≡ logRow d p 2 (own 2 p ws))
+unfolding due
+due-row vs ws p d r = go (differ (own 1 p vs) (own 1 p ws)) (differ (own 2 p vs) (own 2 p ws))
+  where
+    go : (a b : Bool) → cond a (Row (logRow d p 1 (own 1 p ws))) (cond b (Row (logRow d p 2 (own 2 p ws))) Nothing) ≡ Row r → (r ≡ logRow d p 1 (own 1 p ws)) ⊎ (r ≡ logRow d p 2 (own 2 p ws))
+    go true b e = inl (same-row r (logRow d p 1 (own 1 p ws)) (sym e))
+    go false true e = inr (same-row r (logRow d p 2 (own 2 p ws)) (sym e))
+    go false false e = no-row (sym e)
+
+numbers-snoc : (l : List LogRow) (r : LogRow) → logNumbers (l ++ (r ∷ [])) ≡ logNumbers l ++ logWords r
+unfolding logNumbers
+numbers-snoc [] r = refl
+numbers-snoc (x ∷ l) r = ap (λ (y : List ℕ). logWords x ++ y) (numbers-snoc l r) ∙ sym (append-assoc (logWords x) (logNumbers l) (logWords r))
+
+-- the rows used are those that are worked out
+pub used-rows : (o : Due) (l : List LogRow) → usedAfter o (length l) ≡ length (addRow o l)
+used-rows Nothing l = refl
+used-rows (Row r) l = sym (length-append l (r ∷ []))
+
+module _ (n : ℕ) where
+  -- there is room for the row that is due
+  pub log-room : (o : Due) (log : ℕ) → logFull n log o ≡ false → 4 * n ≤ log → 4 * usedAfter o n ≤ log
+  log-room Nothing log e h = h
+  log-room (Row r) log e h = omega (arith, ltb-false)
+
+  module _ (log : List ℕ) where
+    pub length-logged : (o : Due) → 4 * usedAfter o n ≤ length log → length (logged n o log) ≡ length log
+    length-logged Nothing h = refl
+    length-logged (Row r) h = length-splice log (logWords r) (4 * n) 4 (omega arith) refl
+
+    -- the log has the rows with the one that was due
+    pub log-after : (o : Due) (l : List LogRow) → 4 * usedAfter o n ≤ length log → take (4 * n) log ≡ logNumbers l → take (4 * usedAfter o n) (logged n o log) ≡ logNumbers (addRow o l)
+    unfolding splice
+    log-after Nothing l h e = e
+    log-after (Row r) l h e =
+        let front : length (take (4 * n) log) ≡ 4 * n = length-take-le (4 * n) log (omega arith) in
+        ap (take (4 * (n + 1))) (sym (append-assoc (take (4 * n) log) (logWords r) (drop 4 (drop (4 * n) log))))
+        ∙ take-at (take (4 * n) log ++ logWords r) (drop 4 (drop (4 * n) log)) (4 * (n + 1)) (length-append (take (4 * n) log) (logWords r) ∙ omega arith)
+        ∙ ap (λ (x : List ℕ). x ++ logWords r) e ∙ sym (numbers-snoc l r)

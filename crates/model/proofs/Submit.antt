@@ -1,0 +1,135 @@
+-- Submit, accepted: the series stands in its row of values, and book and log follow. Assumes nothing.
+use Prim.Native.Nat.{ℕ, _+_, _*_, _≤_, _<_}
+use mathlib.Core.Path.{_≡_, refl, sym, ap, _∙_, subst}
+use mathlib.Core.Bool.{true, false, _&&_, _||_}
+use mathlib.Core.List.{List, _∷_, _++_, [], map}
+use native.Mathlib.Omega.{arith}
+use borrow.Author.Tests.{eqb-true, leb-false, ltb-false, lt-ltb, not-false}
+use lib.Dec.{leb, ltb, eqb}
+use lib.IntN.{ℤ}
+use lib.ListN.{length, length-set, length-append, length-map}
+use Rattle.quantity.specs.Limits.{points, versions, pointOk, versionOk, dayOk, energyOk}
+use Rattle.quantity.specs.Lists.{all}
+use Rattle.quantity.specs.Word.{word}
+use Rattle.quantity.proofs.Tests.{and-left, and-right, and-both, or-left, or-right, within-low, within-high}
+use Rattle.book.specs.Row.{splice}
+use Rattle.book.proofs.Rows.{length-splice}
+use Rattle.state.specs.Change.{submitted, submittedDesk}
+use Rattle.state.specs.Desk.{rowsIn, versionsIn}
+use Rattle.state.specs.Point.{pointAt, isActive}
+use Rattle.state.specs.Valid.{versionRecordOk}
+use Rattle.state.specs.Version.{newVersion}
+use Rattle.state.specs.declared.Desk.{Desk}
+use Rattle.state.specs.declared.VersionRecord.{VersionRecord}
+use Rattle.state.proofs.Bounds.{fit-rows}
+use Rattle.state.proofs.Kept.{submitted-versions}
+use Rattle.state.proofs.Picks.{submit-other}
+use Rattle.model.specs.Call.{submits, Stores, lengthsOf, Told}
+use Rattle.model.specs.Causes.{rules, submitOk}
+use Rattle.model.specs.Laws.{Passed}
+use Rattle.model.specs.Log.{due, usedAfter}
+use Rattle.model.specs.Plain.{energiesOf}
+use Rattle.model.specs.Step.{followed, followedDesk}
+use Rattle.model.specs.View.{viewOf}
+use Rattle.model.proofs.Books.{booked-same}
+use Rattle.model.proofs.Changing.{changed-kept, left-holds, on-own}
+use Rattle.model.proofs.Figures.{figure-energies}
+use Rattle.model.proofs.Invariant.{Holds, Versioned, Done, Granted, tenanted, count-is, quarters-in, finish}
+use Rattle.model.proofs.Lists.{all-snoc}
+use Rattle.model.proofs.Storing.{stored-more}
+
+module _ (p x e : ℕ) (es : List ℤ) (d : Desk) (s : Stores) (h : List Told) (H : Holds d s h) (P : Passed (rules (viewOf d) (lengthsOf s) (submits p x e es))) where
+  -- the version that the call makes, the versions, the desk and the stores then, if its row of values is m
+  abbrev new : ℕ → VersionRecord
+  new m = newVersion (d .opening .first .0) m p x e
+
+  abbrev after : ℕ → List VersionRecord
+  after m = submitted (new m) (versionsIn d)
+
+  abbrev desk : ℕ → Desk
+  desk m = followedDesk d p e (after m) (submittedDesk d (new m))
+
+  abbrev values : ℕ → List ℕ
+  values m = splice (s .values) (m * d .opening .quarters) (d .opening .quarters) (map word es)
+
+  abbrev stores : ℕ → Stores
+  stores m = followed d s p e (after m) (values m)
+
+  n : length (versionsIn d) ≡ d .count
+  n = count-is d (H .table)
+
+  fields : submitOk p x e (d .opening .quarters) es ≡ true
+  fields = not-false (submitOk p x e (d .opening .quarters) es) (P .1 .1 .0)
+
+  inP : pointOk p ≡ true
+  inP = and-left (pointOk p) _ fields
+
+  inX : versionOk x ≡ true
+  inX = and-left (versionOk x) _ (and-right (pointOk p) _ fields)
+
+  rest : (dayOk e && (eqb (length es) (d .opening .quarters) && all energyOk es)) ≡ true
+  rest = and-right (versionOk x) _ (and-right (pointOk p) _ fields)
+
+  full : length es ≡ d .opening .quarters
+  full = eqb-true (length es) (d .opening .quarters) (and-left (eqb (length es) (d .opening .quarters)) _ (and-right (dayOk e) _ rest))
+
+  free : (leb versions (length (versionsIn d)) || ltb (d .opening .values) ((length (versionsIn d) + 1) * d .opening .quarters)) ≡ false
+  free = P .1 .1 .1 .1 .1 .1 .1 .1 .1 .0
+
+  below : length (versionsIn d) < versions
+  below = leb-false versions (length (versionsIn d)) (or-left _ _ free)
+
+  fits : (length (versionsIn d) + 1) * d .opening .quarters ≤ d .opening .values
+  fits = ltb-false (d .opening .values) _ (or-right (leb versions (length (versionsIn d))) _ free)
+
+  room : length (versionsIn d) * d .opening .quarters + d .opening .quarters ≤ length (s .values)
+  room = omega (arith, fits, H .kept .valuesLong)
+
+  row-in : length (versionsIn d) < rowsIn (d .opening)
+  row-in =
+      let q = quarters-in (d .opening) (H .kept .framed .opening) in
+      omega (arith, fit-rows (d .opening) q (length (versionsIn d) + 1) fits)
+
+  versioned : Versioned (d .opening) (d .points) (after (length (versionsIn d)))
+  versioned =
+      let O = H .kept .versioned in
+      let m = length (versionsIn d) in
+      let more = length-append (versionsIn d) (new m ∷ []) in
+      record {
+        count = omega (arith, below);
+        rows = omega (arith, row-in);
+        each = all-snoc (versionRecordOk (rowsIn (d .opening))) (versionsIn d) (new m) (O .each) (and-both (pointOk p) _ inP (and-both (versionOk x) _ inX (lt-ltb m (rowsIn (d .opening)) row-in)));
+        homes = all-snoc (tenanted (d .points)) (versionsIn d) (new m) (O .homes) (not-false (isActive (pointAt (d .points) p)) (P .1 .1 .1 .1 .1 .0));
+      }
+
+  -- with the next unused row, which is as many as there are versions
+  holds : Holds (desk (length (versionsIn d))) (stores (length (versionsIn d))) (record { call = submits p x e es; lengths = lengthsOf s } ∷ h)
+  holds =
+      let K = H .kept in
+      let T = H .table in
+      let m = length (versionsIn d) in
+      let small = and-right (eqb (length es) (d .opening .quarters)) _ (and-right (dayOk e) _ rest) in
+      finish d s h H (record { call = submits p x e es; lengths = lengthsOf s }) (desk m) (stores m)
+      (record { size = length-set (d .versions) (d .count) (new m) ∙ T .size; count = omega (arith, below, n) })
+      (ap (λ (l : List VersionRecord). record { opening = d .opening; day = e; points = d .points; versions = l; used = usedAfter (due (versionsIn d) (after m) p e) (d .used); settled = d .settled })
+      (submitted-versions d (new m) (omega (arith, below, n, T .size))))
+      refl
+      (changed-kept d s h H p e (within-low 1 points p inP) (within-high 1 points p inP) (and-left (dayOk e) _ rest) (after m) (values m) (energiesOf h ++ (es ∷ [])) versioned
+      (stored-more (d .opening .quarters) (s .values) (versionsIn d) (energiesOf h) (K .stored) (new m) refl es room full small)
+      (length-splice (s .values) (map word es) (m * d .opening .quarters) (d .opening .quarters) room (length-map es word ∙ full) ∙ K .valuesLong)
+      (omega (arith, length-append (versionsIn d) (new m ∷ [])))
+      (λ r i ne. submit-other r i (new m) (versionsIn d) (λ z. ne (sym z)))
+      (booked-same (d .opening .quarters) (s .book) _ _ (λ run k j _ _ _ _. figure-energies (d .points) (d .groups) (versionsIn d) (energiesOf h) es (K .stored .long) run k j) (K .booked))
+      (P .1 .1 .1 .1 .1 .1 .1 .1 .1 .1 .0))
+
+  done : Done d s h (submits p x e es) s
+  done =
+      record {
+        reply = refl;
+        holds =
+            left-holds (desk (d .count)) s (stores (d .count)) (record { call = submits p x e es; lengths = lengthsOf s } ∷ h)
+            (subst (λ (m : ℕ). Holds (desk m) (stores m) (record { call = submits p x e es; lengths = lengthsOf s } ∷ h)) n holds);
+      }
+
+pub submit-granted : (p x e : ℕ) (es : List ℤ) → Granted (submits p x e es)
+submit-granted p x e es d s h st H o P = on-own (submits p x e es) d s h st H o (P .1 .0) (done p x e es d s h H) P

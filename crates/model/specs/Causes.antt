@@ -1,0 +1,184 @@
+-- "Causes and numbers": "Checks go down the table, only those that fit the call; the first that holds decides."
+use Prim.Native.Nat.{ℕ, _+_, _*_}
+use mathlib.Core.Bool.{Bool, true, false, cond, not, _&&_, _||_}
+use mathlib.Core.List.{List, [], _∷_}
+use lib.Dec.{leb, ltb, eqb}
+use lib.IntN.{ℤ}
+use lib.ListN.{length}
+use Rattle.quantity.specs.Limits.{versions, deltas, dayOk, versionOk, pointOk, deltaOk, groupOk, runOk, energyOk}
+use Rattle.quantity.specs.Lists.{all, any, fold}
+use Rattle.state.specs.Change.{submitted, noticed}
+use Rattle.state.specs.Desk.{isOpen, flagOf}
+use Rattle.state.specs.Point.{pointAt, isActive, sinceOf, hasSeries, seriesOk}
+use Rattle.state.specs.Selection.{highest}
+use Rattle.state.specs.Status.{isCheck}
+use Rattle.state.specs.Valid.{openingOk}
+use Rattle.state.specs.Version.{newVersion, isAt, held}
+use Rattle.state.specs.declared.Held.{Held}
+use Rattle.state.specs.declared.Held.the-variants.{Absent, Has}
+use Rattle.state.specs.declared.Opening.{Opening}
+use Rattle.model.specs.Call.{Call, opens, activates, deactivates, submits, notices, assigns, shows, asks, settles, Lengths, Taken, takes, Told}
+use Rattle.model.specs.Log.{due}
+use Rattle.model.specs.View.{View}
+use Rattle.model.specs.declared.Cause.{Cause}
+use Rattle.model.specs.declared.Cause.the-variants.{NotOpen, WrongLength, BadField, OpenAgain, BadOpening, PastDay, AfterCorrection, AfterClearing, PointActive, SameSeries, NotActive, HasVersion, TooEarly, VersionPresent, VersionBelow, NoVersion, NotCheckData, NoRow, NoLogRow, SettleTooEarly, AlreadySettled, FirstRunOpen}
+use Rattle.model.specs.declared.Due.{Due}
+use Rattle.model.specs.declared.Due.the-variants.{Nothing, Row}
+use Rattle.model.specs.declared.Verdict.{Verdict}
+use Rattle.model.specs.declared.Verdict.the-variants.{Fine, Refuse}
+
+-- a line of the table for a call: whether the cause holds, and the cause
+pub record Rule : Type 0 where
+  pub holds : Bool
+  pub cause : Cause
+
+-- a line above others
+abbrev pub rule : Bool → Cause → List Rule → List Rule
+rule t c l = record { holds = t; cause = c } ∷ l
+
+-- what is refused stays refused; what is fine is refused where the test holds
+unfoldable pub orIf : Verdict → Bool → Cause → Verdict
+orIf Fine t c = cond t (Refuse c) Fine
+orIf (Refuse e) t c = Refuse e
+
+-- the same by a line of the table
+abbrev pub orRule : Verdict → Rule → Verdict
+orRule v r = orIf v (r .holds) (r .cause)
+
+-- "the first that holds decides"
+unfoldable pub firstOf : List Rule → Verdict
+firstOf l = fold orRule Fine l
+
+-- the opening that a call of open would make
+abbrev pub openingBy : (quarters first clearing correction : ℕ) → Lengths → Opening
+openingBy q f c k n =
+    record {
+      quarters = q;
+      first = record { 0 = f };
+      clearing = record { 0 = c };
+      correction = record { 0 = k };
+      values = n .values;
+      book = n .book;
+      log = n .log;
+    }
+
+-- "open: Q, deadlines, groups or store lengths not allowed"; "17 delta groups (T, areas 1..16)"
+unfoldable pub opensOk : Opening → (groups : List ℕ) → Bool
+opensOk o gs = openingOk o && (eqb (length gs) deltas && all groupOk gs)
+
+-- a store that the call takes, lent in another length
+abbrev pub otherLength : (taken : Bool) (lent opening : ℕ) → Bool
+otherLength t n m = t && not (eqb n m)
+
+-- "values, book or log that the call takes differs from its opening length"
+unfoldable pub otherLengths : Taken → Lengths → Opening → Bool
+otherLengths t n o =
+    otherLength (t .values) (n .values) (o .values) || (otherLength (t .book) (n .book) (o .book) || otherLength (t .log) (n .log) (o .log))
+
+-- "field outside its range, .. wrong series length, energy too large" of a submission
+abbrev pub submitOk : (point version day quarters : ℕ) → List ℤ → Bool
+submitOk p x d q es = pointOk p && (versionOk x && (dayOk d && (eqb (length es) q && all energyOk es)))
+
+-- a notice's fields; "verdict (1 positive, 0 negative)"
+abbrev pub noticeOk : (point version verdict day : ℕ) → Bool
+noticeOk p x y d = pointOk p && (versionOk x && (leb y 1 && dayOk d))
+
+-- "no such version"
+unfoldable pub isAbsent : Held → Bool
+isAbsent Absent = true
+isAbsent (Has i s) = false
+
+-- "notice: status not 1"
+unfoldable pub notCheck : Held → Bool
+notCheck Absent = true
+notCheck (Has i s) = not (isCheck s)
+
+-- "a log row is due and none is left"
+abbrev pub logFull : (used log : ℕ) → Due → Bool
+logFull n log Nothing = false
+logFull n log (Row r) = ltb log (4 * (n + 1))
+
+-- "day ≤ C (run 1) or ≤ K (run 2)"
+abbrev pub deadline : Opening → (run : ℕ) → ℕ
+deadline o run = cond (eqb run 1) (o .clearing .0) (o .correction .0)
+
+-- the table, for each call the causes that fit it, from top to bottom
+abbrev pub rules : View → Lengths → Call → List Rule
+rules v n (opens q f c k gs) =
+    rule (isOpen (v .opening)) OpenAgain
+    (rule (not (opensOk (openingBy q f c k n) gs)) BadOpening
+    [])
+rules v n (activates p k a b d) =
+    rule (not (isOpen (v .opening))) NotOpen
+    (rule (not (pointOk p && (dayOk d && seriesOk k a b))) BadField
+    (rule (ltb d (v .day)) PastDay
+    (rule (ltb (v .opening .correction .0) d) AfterCorrection
+    (rule (isActive (pointAt (v .points) p)) PointActive
+    (rule (any (hasSeries k a b) (v .points)) SameSeries
+    [])))))
+rules v n (deactivates p d) =
+    rule (not (isOpen (v .opening))) NotOpen
+    (rule (not (pointOk p && dayOk d)) BadField
+    (rule (ltb d (v .day)) PastDay
+    (rule (ltb (v .opening .correction .0) d) AfterCorrection
+    (rule (not (isActive (pointAt (v .points) p))) NotActive
+    (rule (any (isAt p) (v .versions)) HasVersion
+    [])))))
+rules v n (submits p x d es) =
+    rule (not (isOpen (v .opening))) NotOpen
+    (rule (otherLengths (takes (submits p x d es)) n (v .opening)) WrongLength
+    (rule (not (submitOk p x d (v .opening .quarters) es)) BadField
+    (rule (ltb d (v .day)) PastDay
+    (rule (ltb (v .opening .correction .0) d) AfterCorrection
+    (rule (not (isActive (pointAt (v .points) p))) NotActive
+    (rule (ltb d (sinceOf (pointAt (v .points) p) + 2)) TooEarly
+    (rule (not (isAbsent (held p x (v .versions)))) VersionPresent
+    (rule (ltb x (highest p (v .versions))) VersionBelow
+    (rule (leb versions (length (v .versions)) || ltb (v .opening .values) ((length (v .versions) + 1) * v .opening .quarters)) NoRow
+    (rule
+    (logFull (v .used) (v .opening .log)
+    (due (v .versions) (submitted (newVersion (v .opening .first .0) (length (v .versions)) p x d) (v .versions)) p d)) NoLogRow
+    []))))))))))
+rules v n (notices p x y d) =
+    rule (not (isOpen (v .opening))) NotOpen
+    (rule (otherLengths (takes (notices p x y d)) n (v .opening)) WrongLength
+    (rule (not (noticeOk p x y d)) BadField
+    (rule (ltb d (v .day)) PastDay
+    (rule (ltb (v .opening .correction .0) d) AfterCorrection
+    (rule (not (isActive (pointAt (v .points) p))) NotActive
+    (rule (isAbsent (held p x (v .versions))) NoVersion
+    (rule (notCheck (held p x (v .versions))) NotCheckData
+    (rule
+    (logFull (v .used) (v .opening .log)
+    (due (v .versions) (noticed (v .opening .clearing .0) p x y d (v .versions)) p d)) NoLogRow
+    []))))))))
+rules v n (assigns a g d) =
+    rule (not (isOpen (v .opening))) NotOpen
+    (rule (otherLengths (takes (assigns a g d)) n (v .opening)) WrongLength
+    (rule (not (deltaOk a && (groupOk g && dayOk d))) BadField
+    (rule (ltb d (v .day)) PastDay
+    (rule (ltb (v .opening .clearing .0) d) AfterClearing
+    []))))
+rules v n (shows r g) =
+    rule (not (isOpen (v .opening))) NotOpen
+    (rule (otherLengths (takes (shows r g)) n (v .opening)) WrongLength
+    (rule (not (runOk r && groupOk g)) BadField
+    []))
+rules v n (asks p x) =
+    rule (not (isOpen (v .opening))) NotOpen
+    (rule (not (pointOk p && versionOk x)) BadField
+    (rule (not (isActive (pointAt (v .points) p))) NotActive
+    (rule (isAbsent (held p x (v .versions))) NoVersion
+    [])))
+rules v n (settles r d) =
+    rule (not (isOpen (v .opening))) NotOpen
+    (rule (not (runOk r && dayOk d)) BadField
+    (rule (ltb d (v .day)) PastDay
+    (rule (leb d (deadline (v .opening) r)) SettleTooEarly
+    (rule (flagOf r (v .settled)) AlreadySettled
+    (rule (eqb r 2 && not (flagOf 1 (v .settled))) FirstRunOpen
+    [])))))
+
+-- what the table says of a call on an honest desk
+unfoldable pub refusal : View → Told → Verdict
+refusal v t = firstOf (rules v (t .lengths) (t .call))

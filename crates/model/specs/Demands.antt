@@ -1,0 +1,87 @@
+-- Demands 1 and 2 as statements on the desks.
+use Prim.Native.Nat.{ℕ, _*_, _≤_, _<_}
+use mathlib.Core.Path.{_≡_}
+use mathlib.Core.Bool.{Bool, true, false}
+use mathlib.Core.List.{List, [], _∷_, map}
+use lib.Dec.{eqb}
+use lib.ListN.{take}
+use Rattle.quantity.specs.Limits.{runs, runRows}
+use Rattle.quantity.specs.Lists.{any}
+use Rattle.state.specs.Desk.{versionsIn}
+use Rattle.state.specs.Version.{held}
+use Rattle.state.specs.declared.Desk.{Desk}
+use Rattle.model.specs.Agreement.{fresh, replies, end, bookFigure}
+use Rattle.model.specs.Call.{Call, opens, activates, deactivates, submits, notices, assigns, shows, asks, settles, Stores, lengthsOf, Lent, told, causeNumber}
+use Rattle.model.specs.Log.{logNumbers, logged}
+use Rattle.model.specs.Plain.{plainReplies, plainEnd, versionsOf, logOf, figure}
+use Rattle.model.specs.Step.{Outcome, step}
+use Rattle.model.specs.declared.Answer.{Answer}
+use Rattle.model.specs.declared.Answer.the-variants.{Accepted, HasStatus, Refused}
+use Rattle.model.specs.declared.Cause.{Cause}
+use Rattle.model.specs.declared.Due.{Due}
+
+-- "only those that fit the call": the numbers that a call may be refused with, in the order of the checks
+abbrev pub fits : Call → List ℕ
+fits (opens q f c k gs) = 6 ∷ 4 ∷ []
+fits (activates p k a b d) = 1 ∷ 3 ∷ 5 ∷ 11 ∷ 21 ∷ 22 ∷ []
+fits (deactivates p d) = 1 ∷ 3 ∷ 5 ∷ 11 ∷ 12 ∷ 23 ∷ []
+fits (submits p x d es) = 1 ∷ 2 ∷ 3 ∷ 5 ∷ 11 ∷ 12 ∷ 13 ∷ 14 ∷ 15 ∷ 16 ∷ 17 ∷ []
+fits (notices p x y d) = 1 ∷ 2 ∷ 3 ∷ 5 ∷ 11 ∷ 12 ∷ 24 ∷ 25 ∷ 17 ∷ []
+fits (assigns a g d) = 1 ∷ 2 ∷ 3 ∷ 5 ∷ 26 ∷ []
+fits (shows r g) = 1 ∷ 2 ∷ 3 ∷ []
+fits (asks p x) = 1 ∷ 3 ∷ 12 ∷ 24 ∷ []
+fits (settles r d) = 1 ∷ 3 ∷ 5 ∷ 27 ∷ 28 ∷ 29 ∷ []
+
+-- a number of the list
+abbrev pub isIn : List ℕ → ℕ → Bool
+isIn l n = any (eqb n) l
+
+-- "A call accepted returns 0 (status: 1..5; show: the row)."
+abbrev pub asksStatus : Call → Bool
+asksStatus (opens q f c k gs) = false
+asksStatus (activates p k a b d) = false
+asksStatus (deactivates p d) = false
+asksStatus (submits p x d es) = false
+asksStatus (notices p x y d) = false
+asksStatus (assigns a g d) = false
+asksStatus (shows r g) = false
+asksStatus (asks p x) = true
+asksStatus (settles r d) = false
+
+-- "gets an answer from the table of document 01": 0, of status a status, or the number of a cause that fits the call
+abbrev pub Answered : Call → Answer → Type 0
+Answered c Accepted = asksStatus c ≡ false
+Answered c (HasStatus s) = asksStatus c ≡ true
+Answered c (Refused x) = isIn (fits c) (causeNumber x) ≡ true
+
+-- "a refused call leaves the desk, value store, book, log and output as they were"; "A refused show returns an empty part too"
+pub record Untouched (d : Desk) (s : Stores) (o : Outcome) : Type 0 where
+  pub desk : o .desk ≡ d
+  pub stores : o .stores ≡ s
+  pub part : o .part ≡ []
+
+-- demand 1: "Whoever calls the desk, with any numbers, series, bytes or stores, open or not"
+pub record DemandOne (d : Desk) (l : Lent) : Type 0 where
+  pub answers : Answered (l .call) (step d l .answer)
+  pub keeps : (x : Cause) → step d l .answer ≡ Refused x → Untouched d (l .stores) (step d l)
+
+-- demand 2: "From a fresh desk on, while nobody else writes in it or in its stores, every answer, data status, log row and book figure is
+-- the one that document 01 works out from the accepted calls"
+pub record DemandTwo (s : Stores) (l : List Lent) : Type 0 where
+  pub answers : replies (fresh s) l ≡ plainReplies [] (map told l)
+  pub statuses : (p x : ℕ) → held p x (versionsIn (end (fresh s) l .desk)) ≡ held p x (versionsOf (plainEnd [] (map told l)))
+  pub log : take (4 * end (fresh s) l .desk .used) (end (fresh s) l .stores .log) ≡ logNumbers (logOf (plainEnd [] (map told l)))
+  pub figures : (run k q : ℕ) → 1 ≤ run → run ≤ runs → k < runRows → q < end (fresh s) l .desk .opening .quarters → bookFigure (end (fresh s) l) run k q ≡ figure (plainEnd [] (map told l)) run k q
+
+-- two outcomes of a desk, with stores s and t, that have the same answer, desk and log row
+pub record Alike (d : Desk) (s t : Stores) (o p : Outcome) : Type 0 where
+  pub answer : o .answer ≡ p .answer
+  pub desk : o .desk ≡ p .desk
+  pub row : Due
+  pub log : o .stores .log ≡ logged (d .used) row (s .log)
+  pub otherLog : p .stores .log ≡ logged (d .used) row (t .log)
+
+-- "Answer numbers, statuses and log rows never depend on what the stores hold": only on their lengths
+abbrev pub Blind : Type 0
+Blind =
+    (d : Desk) (c : Call) (s t : Stores) → lengthsOf s ≡ lengthsOf t → Alike d s t (step d (record { call = c; stores = s })) (step d (record { call = c; stores = t }))

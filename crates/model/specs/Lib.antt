@@ -1,0 +1,11 @@
+pub mod Agreement
+pub mod Call
+pub mod Causes
+pub mod Demands
+pub mod Laws
+pub mod Log
+pub mod Plain
+pub mod Sample
+pub mod Series
+pub mod Step
+pub mod View

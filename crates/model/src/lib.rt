@@ -1,0 +1,95 @@
+// The types that document 01's definitions and the calls share: causes, answers, log rows, the sides of a series.
+
+// Why a call is refused, in the order of the table. A01 to A05 are the codes of the published decision trees.
+pub enum Cause {
+    // 1
+    NotOpen,
+    // 2
+    WrongLength,
+    // 3
+    BadField,
+    // 6
+    OpenAgain,
+    // 4
+    BadOpening,
+    // 5
+    PastDay,
+    // 11 (A01)
+    AfterCorrection,
+    // 26
+    AfterClearing,
+    // 21
+    PointActive,
+    // 22
+    SameSeries,
+    // 12 (A02)
+    NotActive,
+    // 23
+    HasVersion,
+    // 13 (A03)
+    TooEarly,
+    // 14 (A04)
+    VersionPresent,
+    // 15 (A05)
+    VersionBelow,
+    // 24
+    NoVersion,
+    // 25
+    NotCheckData,
+    // 16
+    NoRow,
+    // 17
+    NoLogRow,
+    // 27
+    SettleTooEarly,
+    // 28
+    AlreadySettled,
+    // 29
+    FirstRunOpen,
+}
+
+// The answer of a call. An accepted status is a case of its own.
+pub enum Answer {
+    Accepted,
+    HasStatus(state::Status),
+    Refused(Cause),
+}
+
+// What the table says of a call: fine, or the cause that decides.
+pub enum Verdict {
+    Fine,
+    Refuse(Cause),
+}
+
+// A row of the log: day, point, run, new version.
+pub struct LogRow {
+    pub day: u64,
+    pub point: u64,
+    pub run: u64,
+    pub version: u64,
+}
+
+// A log row, if one is due.
+pub enum Due {
+    Nothing,
+    Row(LogRow),
+}
+
+// One side of a series: no row of the book, a group's row, or a delta's row and that of its delta group.
+pub enum Side {
+    Outside,
+    Group(u64),
+    Delta { delta: u64, group: u64 },
+}
+
+// Every series moves its value from one side to the other.
+pub struct Sides {
+    pub to: Side,
+    pub from: Side,
+}
+
+// Where the selected version's series begins in the values, if there is one.
+pub enum Place {
+    Nowhere,
+    At(u64),
+}

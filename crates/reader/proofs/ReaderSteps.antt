@@ -1,0 +1,150 @@
+-- The reader's steps: a series, what follows the fields, a call by its kind, the call at an offset. Assumes nothing.
+use Prim.Native.Nat.{ℕ, _-_, _≤_}
+use mathlib.Core.Path.{_≡_, refl, sym, ap, _∙_}
+use mathlib.Core.Bool.{true, false}
+use mathlib.Core.List.{List, map}
+use native.Mathlib.Omega.{arith}
+use borrow.Author.Tests.{eq-eqb, ne-eqb}
+use lib.IntN.{ℤ}
+use lib.ListN.{length, drop, length-map}
+use lib.Seq.{drop-length}
+use Rattle.message.specs.Read.{Read, got, refused}
+use Rattle.message.specs.Number.{numbersIn}
+use Rattle.message.specs.Energy.{received}
+use Rattle.message.specs.Call.{Sent, submission, fieldsOf, isKind, countIn, seriesIn, tailIn, kindIn, parse}
+use Rattle.message.specs.Offset.{itself, numberOf, numberAt, passedOf}
+use Rattle.reader.specs.Reader.{padded, fieldsRead, without, readingOf, readAt, listOf, energiesOf, accepted, filled, seriesAfter}
+use Rattle.message.specs.declared.FileCause.{FileCause}
+use Rattle.message.specs.declared.FileCause.the-variants.{BadKind}
+use Rattle.message.specs.declared.NumberRead.{NumberRead}
+use Rattle.message.specs.declared.NumberRead.the-variants.{Number, Refused as NoNumber}
+use Rattle.message.specs.declared.Passed.the-variants.{To, Refused as NotPassed}
+use Rattle.reader.specs.declared.FieldsRead.{FieldsRead}
+use Rattle.reader.specs.declared.Reading.{Reading}
+use Rattle.reader.specs.declared.Step.the-variants.{Call, End, Refused}
+use Rattle.message.proofs.Numbers.{decode-none, numbers-read}
+use Rattle.message.proofs.Placed.{offset-is, Placed, passed-to, passed-not, number-not, found, found-not}
+use Rattle.message.proofs.CountSteps.{Counted}
+
+module _ {A : Type 0} (n : ℕ) (d : Read A) where
+  pub is-accepted : {k : ℕ} → passedOf n d ≡ To k → accepted d ≡ true
+  is-accepted {k} e = go d e
+    where
+      go : (t : Read A) → passedOf n t ≡ To k → accepted t ≡ true
+      go (got a r) e = refl
+      go (refused y) e = absurd (let z : _≡_ {A = ℕ} 0 1 = cc in omega arith)
+
+-- what is answered of a list of energies: its length, and the buffer with the energies in its first places
+abbrev pub SeriesPost : List ℕ → Read (List ℤ) → List ℕ → NumberRead → List ℕ → Type 0
+SeriesPost s d series₀ r series = (r ≡ numberOf length (length s) d) × (series ≡ filled (listOf d) series₀)
+
+pub series-refused : (s : List ℕ) (d : Read (List ℤ)) (series₀ : List ℕ) {x : FileCause} → d ≡ refused x → SeriesPost s d series₀ (NoNumber x) series₀
+series-refused s d series₀ e = rw e (refl, refl)
+
+pub count-refused : (s : List ℕ) (at room : ℕ) {x : FileCause} → numberOf itself (length s) (countIn room (drop at s)) ≡ NoNumber x → seriesIn room (drop at s) ≡ refused x
+count-refused s at room e = rw (number-not (length s) (countIn room (drop at s)) itself e)
+
+module _ (s : List ℕ) (at room : ℕ) {v n : ℕ} (w : Counted s at room v n) where
+  pub all-there : {m : ℕ} → passedOf (length s) (numbersIn v (drop n s)) ≡ To m → accepted (numbersIn v (drop n s)) ≡ true
+  all-there e = is-accepted (length s) (numbersIn v (drop n s)) e
+
+  pub numbers-refused : {x : FileCause} → passedOf (length s) (numbersIn v (drop n s)) ≡ NotPassed x → seriesIn room (drop at s) ≡ refused x
+  numbers-refused e = rw (w .is, passed-not (length s) (numbersIn v (drop n s)) e)
+
+  pub series-ok : {m : ℕ} (series₀ : List ℕ) {series : List ℕ} → passedOf (length s) (numbersIn v (drop n s)) ≡ To m →
+      series ≡ filled (map received (listOf (numbersIn v (drop n s)))) series₀ → SeriesPost s (seriesIn room (drop at s)) series₀ (Number v m) series
+  series-ok {m} series₀ {series} e q = go (passed-to v s n (numbersIn v (drop n s)) (w .within) (λ a r p. numbers-read v (drop n s) p .behind) e)
+    where
+      go : Placed v s n (numbersIn v (drop n s)) m → SeriesPost s (seriesIn room (drop at s)) series₀ (Number v m) series
+      go p =
+          let size : length (map received (p .value)) ≡ v = length-map (p .value) received ∙ numbers-read v (drop n s) (p .is) .count in
+          (rw (w .is, p .is, offset-is s m (p .within), size), q ∙ rw (w .is, p .is))
+
+-- what follows the fields of a kind
+module _ (s : List ℕ) (at room k : ℕ) where
+  pub tail-series : (series₀ : List ℕ) {r : NumberRead} {series : List ℕ} → k ≡ submission → SeriesPost s (seriesIn room (drop at s)) series₀ r series →
+      SeriesPost s (tailIn room k (drop at s)) series₀ r series
+  tail-series series₀ e p = rw (eq-eqb k submission e) p
+
+  pub tail-none : (series₀ : List ℕ) → at ≤ length s → (k ≡ submission → ⊥) → SeriesPost s (tailIn room k (drop at s)) series₀ (Number 0 at) series₀
+  tail-none series₀ h n = rw (ne-eqb k submission n, offset-is s at h) (refl, refl)
+
+-- fields
+pub record Fields (s : List ℕ) («from» n : ℕ) (f : FieldsRead) (after : ℕ) : Type 0 where
+  pub vs : List ℕ
+  pub is : numbersIn n (drop «from» s) ≡ got vs (drop after s)
+  pub padding : f .fields ≡ padded vs
+  pub within : after ≤ length s
+
+module _ (s : List ℕ) («from» n : ℕ) (f : FieldsRead) (e : f ≡ fieldsRead (length s) (numbersIn n (drop «from» s))) where
+  passed-is : f .passed ≡ passedOf (length s) (numbersIn n (drop «from» s))
+  passed-is = go (numbersIn n (drop «from» s)) e
+    where
+      go : (d : Read (List ℕ)) → f ≡ fieldsRead (length s) d → f .passed ≡ passedOf (length s) d
+      go (got vs r) e = ap (λ (x : FieldsRead). x .passed) e
+      go (refused x) e = ap (λ (x : FieldsRead). x .passed) e
+
+  pub fields-to : {after : ℕ} → «from» ≤ length s → f .passed ≡ To after → Fields s «from» n f after
+  fields-to {after} h q = go (passed-to n s «from» (numbersIn n (drop «from» s)) h (λ a r p. numbers-read n (drop «from» s) p .behind) (sym passed-is ∙ q))
+    where
+      go : Placed n s «from» (numbersIn n (drop «from» s)) after → Fields s «from» n f after
+      go p =
+          let whole : fieldsRead (length s) (numbersIn n (drop «from» s)) ≡ fieldsRead (length s) (got (p .value) (drop after s)) = rw (p .is) in
+          record { vs = p .value; is = p .is; padding = ap (λ (x : FieldsRead). x .fields) (e ∙ whole); within = p .within }
+
+  pub fields-not : {x : FileCause} → f .passed ≡ NotPassed x → numbersIn n (drop «from» s) ≡ refused x
+  fields-not q = passed-not (length s) (numbersIn n (drop «from» s)) (sym passed-is ∙ q)
+
+-- what is answered of a call at an offset: the step, its fields, and the buffer
+abbrev pub CallPost : List ℕ → ℕ → Read Sent → List ℕ → Reading → List ℕ → Type 0
+CallPost s at d series₀ r series = (r ≡ readingOf (length s) at d) × (series ≡ filled (energiesOf d) series₀)
+
+pub call-refused : (s : List ℕ) (at : ℕ) (d : Read Sent) (series₀ : List ℕ) {x : FileCause} {r : Reading} → d ≡ refused x → r ≡ without (Refused x at) → CallPost s at d series₀ r series₀
+call-refused s at d series₀ e q = rw e (q, refl)
+
+pub kind-33 : (room k : ℕ) (s : List ℕ) → isKind k ≡ false → kindIn room k s ≡ refused BadKind
+kind-33 room k s e = rw e
+
+module _ (s : List ℕ) (at «from» room k : ℕ) (known : isKind k ≡ true) {m : ℕ} (count : m ≡ fieldsOf k) where
+  pub kind-fields : {x : FileCause} → numbersIn m (drop «from» s) ≡ refused x → kindIn room k (drop «from» s) ≡ refused x
+  kind-fields e = rw (known, sym count, e)
+
+  module _ {f : FieldsRead} {after : ℕ} (w : Fields s «from» m f after) where
+    pub kind-tail : {x : FileCause} (series₀ : List ℕ) {series : List ℕ} {r : Reading} → numberOf length (length s) (tailIn room k (drop after s)) ≡ NoNumber x →
+        series ≡ filled (listOf (tailIn room k (drop after s))) series₀ → r ≡ without (Refused x at) → CallPost s at (kindIn room k (drop «from» s)) series₀ r series
+    kind-tail series₀ e q p =
+        let t = number-not (length s) (tailIn room k (drop after s)) length e in
+        rw (known, sym count, w .is, t) (p, q ∙ rw t)
+
+    pub kind-ok : {v n : ℕ} (series₀ : List ℕ) {series : List ℕ} → numberOf length (length s) (tailIn room k (drop after s)) ≡ Number v n →
+        series ≡ filled (listOf (tailIn room k (drop after s))) series₀ →
+        CallPost s at (kindIn room k (drop «from» s)) series₀ (record { step = Call k v n; fields = f .fields }) series
+    kind-ok {v} {n} series₀ {series} e q = go (tailIn room k (drop after s)) refl e q
+      where
+        go : (d : Read (List ℤ)) → tailIn room k (drop after s) ≡ d → numberOf length (length s) d ≡ Number v n → series ≡ filled (listOf d) series₀ →
+            CallPost s at (kindIn room k (drop «from» s)) series₀ (record { step = Call k v n; fields = f .fields }) series
+        go (got es r) t e q =
+            let a : length es ≡ v = cc in
+            let b : length s - length r ≡ n = cc in
+            rw (known, sym count, w .is, t, sym a, sym b, w .padding) (refl, q)
+        go (refused x) t e q = absurd (let z : _≡_ {A = ℕ} 0 1 = cc in omega arith)
+
+-- the call at an offset
+abbrev pub AtPost : List ℕ → ℕ → List ℕ → Reading → List ℕ → Type 0
+AtPost s at series₀ r series = (r ≡ readAt s at (length series₀)) × (series ≡ seriesAfter s at series₀)
+
+pub at-end : (s : List ℕ) (at : ℕ) (series₀ : List ℕ) → at ≡ length s → AtPost s at series₀ (without End) series₀
+unfolding readAt
+at-end s at series₀ e = (rw (eq-eqb at (length s) e), rw (e, drop-length s, decode-none))
+
+module _ (s : List ℕ) (at : ℕ) (series₀ : List ℕ) (ne : at ≡ length s → ⊥) where
+  at-parse : {r : Reading} {series : List ℕ} → CallPost s at (parse (length series₀) (drop at s)) series₀ r series → AtPost s at series₀ r series
+  unfolding readAt
+  at-parse p = (rw (ne-eqb at (length s) ne) (p .0), p .1)
+
+  pub at-refused : {x : FileCause} {r : Reading} → numberAt s at ≡ NoNumber x → r ≡ without (Refused x at) → AtPost s at series₀ r series₀
+  at-refused e q = at-parse (rw (found-not s at e) (q, refl))
+
+  pub at-kind : {k n : ℕ} {r : Reading} {series : List ℕ} → numberAt s at ≡ Number k n → CallPost s at (kindIn (length series₀) k (drop n s)) series₀ r series →
+      AtPost s at series₀ r series
+  at-kind e p = at-parse (rw (found s at e .decoded) p)

@@ -1,0 +1,60 @@
+-- What the reader answers at an offset of a file, and what it leaves in the series buffer.
+use Prim.Native.Nat.{ℕ, _-_}
+use mathlib.Core.Bool.{Bool, true, false, cond}
+use mathlib.Core.List.{List, [], _++_, map}
+use lib.Dec.{eqb}
+use lib.IntN.{ℤ}
+use lib.ListN.{length, drop, replicate}
+use Rattle.quantity.specs.Word.{word}
+use Rattle.message.specs.Read.{Read, got, refused}
+use Rattle.message.specs.Call.{Sent, parse, mostFields}
+use Rattle.message.specs.declared.Passed.the-variants.{To, Refused as NotPassed}
+use Rattle.reader.specs.declared.FieldsRead.{FieldsRead}
+use Rattle.reader.specs.declared.Reading.{Reading}
+use Rattle.reader.specs.declared.Step.{Step}
+use Rattle.reader.specs.declared.Step.the-variants.{Call, End, Refused}
+
+-- a call's fields, with 0 behind them
+abbrev pub padded : List ℕ → List ℕ
+padded vs = vs ++ replicate (mostFields - length vs) 0
+
+-- the fields that were read, and the offset behind them
+abbrev pub fieldsRead : (length : ℕ) → Read (List ℕ) → FieldsRead
+fieldsRead n (got vs r) = record { passed = To (n - length r); fields = padded vs }
+fieldsRead n (refused x) = record { passed = NotPassed x; fields = replicate mostFields 0 }
+
+-- an answer without a call
+abbrev pub without : Step → Reading
+without s = record { step = s; fields = replicate mostFields 0 }
+
+-- a call that was read in a file of so many bytes, or its refusal: "31 to 35 come with an offset, that of the refused call"
+abbrev pub readingOf : (length at : ℕ) → Read Sent → Reading
+readingOf n at (got c r) = record { step = Call (c .kind) (length (c .energies)) (n - length r); fields = padded (c .fields) }
+readingOf n at (refused x) = without (Refused x at)
+
+-- the call at an offset: "At the file's end it answers that no call follows; a start beyond it is 31."
+unfoldable pub readAt : (file : List ℕ) (at room : ℕ) → Reading
+readAt s at room = cond (eqb at (length s)) (without End) (readingOf (length s) at (parse room (drop at s)))
+
+-- a list that was read, none where it is refused
+abbrev pub listOf : {A : Type 0} → Read (List A) → List A
+listOf (got l r) = l
+listOf (refused x) = []
+
+-- the energies of a call that was read
+abbrev pub energiesOf : Read Sent → List ℤ
+energiesOf (got c r) = c .energies
+energiesOf (refused x) = []
+
+-- nothing is refused
+abbrev pub accepted : {A : Type 0} → Read A → Bool
+accepted (got a r) = true
+accepted (refused x) = false
+
+-- "an accepted submission fills the first places with its energies, the others stay"
+abbrev pub filled : List ℤ → (series : List ℕ) → List ℕ
+filled es series = map word es ++ drop (length es) series
+
+-- the series buffer after the call at an offset: "every other call leaves it unchanged"
+abbrev pub seriesAfter : (file : List ℕ) (at : ℕ) (series : List ℕ) → List ℕ
+seriesAfter s at series = filled (energiesOf (parse (length series) (drop at s))) series

@@ -1,0 +1,182 @@
+// The reader: one call from a start in a lent file, with a lent series buffer.
+use message::FileCause;
+use message::NumberRead;
+use message::Passed;
+use message::call;
+use message::energy;
+use message::number;
+ghost use mathlib.Core.Path.{_≡_};
+ghost use mathlib.Core.Bool.{true};
+ghost use mathlib.Core.List.{map};
+ghost use Prim.Native.Nat.{_≤_};
+ghost use lib.ListN.{length, drop};
+ghost use Rattle.message.specs.Number.{numbersIn};
+ghost use Rattle.message.specs.Energy.{received};
+ghost use Rattle.message.specs.Call.{mostFields, seriesIn, tailIn, kindIn};
+ghost use Rattle.message.specs.Offset.{numberOf};
+ghost use Rattle.reader.specs.Reader.{fieldsRead, without, readingOf, readAt, listOf, energiesOf, accepted, filled, seriesAfter};
+
+// Fields that were passed, with 0 behind them.
+pub struct FieldsRead {
+    pub passed: Passed,
+    pub fields: [u64; 21],
+}
+
+// What stands at an offset of a file.
+pub enum Step {
+    // A call, the count of its energies, and the offset behind it.
+    Call {
+        kind: u64,
+        count: usize,
+        next: usize,
+    },
+    // The file's end.
+    End,
+    // A refusal, and the offset of the refused call.
+    Refused {
+        cause: FileCause,
+        offset: usize,
+    },
+}
+
+// What stands at an offset, and a call's fields, with 0 behind them.
+pub struct Reading {
+    pub step: Step,
+    pub fields: [u64; 21],
+}
+
+// The fields of a call, n of them.
+fn read_fields(file: &[u8], at: usize, n: usize) -> FieldsRead
+    requires { ⌜ (at ≤ length (now file)) × (n ≤ mostFields) ⌝ }
+    ensures { λ r. ⌜ r ≡ fieldsRead (length (now (file .entry))) (numbersIn n (drop at (now (file .entry)))) ⌝ }
+{
+    let mut fields = [0u64; 21];
+    let mut j = at;
+    let mut i = 0;
+    while i < n {
+        match number::read_number(file, j) {
+            NumberRead::Number { value, next } => {
+                fields[i] = value;
+                j = next;
+            }
+            NumberRead::Refused(cause) => {
+                return FieldsRead {
+                    passed: Passed::Refused(cause),
+                    fields: [0u64; 21],
+                };
+            }
+        }
+        i += 1;
+    }
+    FieldsRead {
+        passed: Passed::To(j),
+        fields: fields,
+    }
+}
+
+// The energies of n numbers that are known to be there, into the first places of the buffer.
+fn fill_series(file: &[u8], at: usize, n: usize, series: &mut [u64])
+    requires { ⌜ (at ≤ length (now file)) × (n ≤ length (now series)) × (accepted (numbersIn n (drop at (now file))) ≡ true) ⌝ }
+    ensures { λ _. ⌜ now (series .exit) ≡ filled (map received (listOf (numbersIn n (drop at (now (file .entry)))))) (now (series .entry)) ⌝ }
+{
+    let mut j = at;
+    let mut i = 0;
+    while i < n {
+        match number::read_number(file, j) {
+            NumberRead::Number { value, next } => {
+                let energy = energy::received_of(value);
+                series[i] = energy.0;
+                j = next;
+            }
+            NumberRead::Refused(_) => {
+                return;
+            }
+        }
+        i += 1;
+    }
+}
+
+// A submission's count and energies; all are checked before the first is stored.
+fn read_series(file: &[u8], at: usize, series: &mut [u64]) -> NumberRead
+    ensures { λ r. ⌜ (r ≡ numberOf length (length (now (file .entry))) (seriesIn (length (now (series .entry))) (drop at (now (file .entry)))))
+        × (now (series .exit) ≡ filled (listOf (seriesIn (length (now (series .entry))) (drop at (now (file .entry))))) (now (series .entry))) ⌝ }
+{
+    match call::read_count(file, at, series.len()) {
+        NumberRead::Number { value, next } => {
+            let n = value as usize;
+            match number::pass_numbers(file, next, n) {
+                Passed::To(end) => {
+                    fill_series(file, next, n, series);
+                    NumberRead::Number { value, next: end }
+                }
+                Passed::Refused(cause) => NumberRead::Refused(cause),
+            }
+        }
+        NumberRead::Refused(cause) => NumberRead::Refused(cause),
+    }
+}
+
+// What follows the fields of a kind.
+fn read_tail(file: &[u8], at: usize, kind: u64, series: &mut [u64]) -> NumberRead
+    requires { ⌜ at ≤ length (now file) ⌝ }
+    ensures { λ r. ⌜ (r ≡ numberOf length (length (now (file .entry))) (tailIn (length (now (series .entry))) kind (drop at (now (file .entry)))))
+        × (now (series .exit) ≡ filled (listOf (tailIn (length (now (series .entry))) kind (drop at (now (file .entry))))) (now (series .entry))) ⌝ }
+{
+    if kind == call::SUBMISSION {
+        return read_series(file, at, series);
+    }
+    NumberRead::Number { value: 0, next: at }
+}
+
+fn refused(cause: FileCause, at: usize) -> Reading
+    ensures { λ r. ⌜ r ≡ without (Step.Refused cause at) ⌝ }
+{
+    Reading {
+        step: Step::Refused { cause, offset: at },
+        fields: [0u64; 21],
+    }
+}
+
+// The call at `at`, whose kind was read and whose fields begin at `from`.
+fn read_kind(file: &[u8], at: usize, kind: u64, from: usize, series: &mut [u64]) -> Reading
+    requires { ⌜ from ≤ length (now file) ⌝ }
+    ensures { λ r. ⌜ (r ≡ readingOf (length (now (file .entry))) at (kindIn (length (now (series .entry))) kind (drop from (now (file .entry)))))
+        × (now (series .exit) ≡ filled (energiesOf (kindIn (length (now (series .entry))) kind (drop from (now (file .entry))))) (now (series .entry))) ⌝ }
+{
+    if !call::kind_ok(kind) {
+        return refused(FileCause::BadKind, at);
+    }
+    let read = read_fields(file, from, call::fields_of(kind));
+    let passed = read.passed;
+    let fields = read.fields;
+    match passed {
+        Passed::To(after) => match read_tail(file, after, kind, series) {
+            NumberRead::Number { value, next } => Reading {
+                step: Step::Call {
+                    kind,
+                    count: value as usize,
+                    next,
+                },
+                fields: fields,
+            },
+            NumberRead::Refused(cause) => refused(cause, at),
+        },
+        Passed::Refused(cause) => refused(cause, at),
+    }
+}
+
+// The call at an offset. An accepted submission's energies go to the first places of the buffer.
+pub fn read_call(file: &[u8], at: usize, series: &mut [u64]) -> Reading
+    ensures { λ r. ⌜ (r ≡ readAt (now (file .entry)) at (length (now (series .entry)))) × (now (series .exit) ≡ seriesAfter (now (file .entry)) at (now (series .entry))) ⌝ }
+{
+    if at == file.len() {
+        return Reading {
+            step: Step::End,
+            fields: [0u64; 21],
+        };
+    }
+    match number::read_number(file, at) {
+        NumberRead::Number { value, next } => read_kind(file, at, value, next, series),
+        NumberRead::Refused(cause) => refused(cause, at),
+    }
+}

@@ -1,0 +1,130 @@
+-- Laws of what calls make of the versions: which selections stay, what exactly a notice and a settle change, and that the desk's table and the
+-- list of the versions held change alike. Assumes nothing.
+use Prim.Native.Nat.{ℕ, _≤_, _<_}
+use mathlib.Core.Path.{_≡_, refl, sym, ap, _∙_, subst}
+use mathlib.Core.Bool.{Bool, true, false, cond, _&&_, and-false, false≢true}
+use mathlib.Core.List.{List}
+use native.Mathlib.Numerals.{add-one}
+use native.Mathlib.Omega.{arith}
+use borrow.Author.Tests.{eqb-true, eq-eqb, ne-eqb}
+use lib.Dec.{eqb}
+use lib.ListN.{length, take, set}
+use lib.Seq.{length-take-le, getD-take, take-set-lt, take-suc-set}
+use Rattle.quantity.proofs.Tests.{by-test, and-left, and-right}
+use Rattle.state.proofs.Lists.{take-mapFirst}
+use Rattle.state.proofs.Picks.{best-set, best-map, held-right, own-highest}
+use Rattle.state.specs.Change.{submitted, confirm, noticed, settle, settledBy, submittedDesk, noticedDesk, settledDesk}
+use Rattle.state.specs.Desk.{versionsIn}
+use Rattle.state.specs.Selection.{versionOf, isCounted, own, IsHighest, Highest}
+use Rattle.state.specs.Status.{counts, isCheck, confirmedStatus, settledStatus}
+use Rattle.state.specs.Version.{emptyVersion, restatus, recordAt, isAt, held, HeldIn}
+use Rattle.state.specs.declared.Desk.{Desk}
+use Rattle.state.specs.declared.Held.{Held}
+use Rattle.state.specs.declared.Held.the-variants.{Absent, Has}
+use Rattle.state.specs.declared.Selection.the-variants.{Selected}
+use Rattle.state.specs.declared.Status.{Status}
+use Rattle.state.specs.declared.Status.the-variants.{Check, Settlement, Settled, Correction, CorrectionSettled}
+use Rattle.state.specs.declared.VersionRecord.{VersionRecord}
+use Rattle.state.specs.declared.VersionRow.{VersionRow}
+
+-- ---- a notice
+
+-- "Negative changes no status."
+pub notice-negative : (c p x y d : ℕ) (vs : List VersionRecord) → (y ≡ 1 → ⊥) → noticed c p x y d vs ≡ vs
+notice-negative c p x y d vs ne = go (held p x vs)
+  where
+    go : (h : Held) → confirm c y d h vs ≡ vs
+    go Absent = refl
+    go (Has i s) = rw (ne-eqb y 1 ne)
+
+-- "Positive turns status 1 into 2 if day ≤ C, else 4.": exactly the record found is restated
+pub notice-positive : (c p x d i : ℕ) (vs : List VersionRecord) → held p x vs ≡ Has i Check → noticed c p x 1 d vs ≡ set vs i (restatus (confirmedStatus c d) (recordAt vs i))
+notice-positive c p x d i vs e = rw e
+
+-- a notice at one point leaves the selection of every other
+pub notice-other : (run q c p x y d : ℕ) (vs : List VersionRecord) → (p ≡ q → ⊥) → own run q (noticed c p x y d vs) ≡ own run q vs
+notice-other run q c p x y d vs ne = go (held p x vs) (held-right p x vs)
+  where
+    go : (h : Held) → HeldIn p x vs (length vs) h → own run q (confirm c y d h vs) ≡ own run q vs
+    go Absent k = refl
+    go (Has i s) k =
+        let e = eqb-true (recordAt vs i .point .0) p (and-left (isAt p (recordAt vs i)) _ (k .found)) in
+        let off = ne-eqb (recordAt vs i .point .0) q (λ j. ne (sym e ∙ j)) in
+        by-test (λ (l : List VersionRecord). own run q l ≡ own run q vs) (eqb y 1 && isCheck s) (set vs i (restatus (confirmedStatus c d) (recordAt vs i))) vs
+        (λ _. best-set (isCounted run q) vs i (restatus (confirmedStatus c d) (recordAt vs i)) (rw off) refl)
+        (λ _. refl)
+
+-- ---- a settle
+
+-- 2 and 3 count alike, and so do 4 and 5
+settled-counts : (run r : ℕ) (s : Status) → counts r s ≡ true → counts run (settledStatus r) ≡ counts run s
+settled-counts run r Check e = absurd (false≢true e)
+settled-counts run r Settlement e = rw e
+settled-counts run r Settled e = rw e
+settled-counts run r Correction e = rw (eqb-true r 2 e)
+settled-counts run r CorrectionSettled e = rw (eqb-true r 2 e)
+
+module _ (r : ℕ) (vs : List VersionRecord) where
+  settle-counted : (run p : ℕ) (v : VersionRecord) → isCounted run p (settle r vs v) ≡ isCounted run p v
+  unfolding settle
+  settle-counted run p v =
+      by-test (λ (w : VersionRecord). isCounted run p w ≡ isCounted run p v) (counts r (v .status) && eqb (v .version .0) (versionOf (own r (v .point .0) vs))) (restatus (settledStatus r) v) v
+      (λ e. rw (settled-counts run r (v .status) (and-left (counts r (v .status)) _ e))) (λ _. refl)
+
+  settle-version : (v : VersionRecord) → settle r vs v .version ≡ v .version
+  unfolding settle
+  settle-version v =
+      by-test (λ (w : VersionRecord). w .version ≡ v .version) (counts r (v .status) && eqb (v .version .0) (versionOf (own r (v .point .0) vs))) (restatus (settledStatus r) v) v (λ _. refl) (λ _. refl)
+
+  -- 2 restated as 3, or 4 as 5, leaves all selections, of both runs
+  pub settle-own : (run p : ℕ) → own run p (settledBy r vs) ≡ own run p vs
+  settle-own run p = best-map (isCounted run p) vs (settle r vs) (settle-counted run p) settle-version
+
+  -- each selected version is restated
+  pub settle-selected : (p : ℕ) (s : VersionRow) → own r p vs ≡ Selected s → settle r vs (recordAt vs (s .at)) ≡ restatus (settledStatus r) (recordAt vs (s .at))
+  unfolding settle
+  settle-selected p s e =
+      let v = recordAt vs (s .at) in
+      let h : IsHighest (isCounted r p) vs (length vs) s = subst (Highest (isCounted r p) vs (length vs)) e (own-highest r p vs) in
+      let q = eqb-true (v .point .0) p (and-left (isAt p v) _ (h .passes)) in
+      let n = eq-eqb (v .version .0) (s .version .0) (ap (λ (x : _). x .0) (h .version)) in
+      rw (q, e, and-right (isAt p v) _ (h .passes), n)
+
+  -- and no other: not one that does not count, nor one below the highest that counts
+  pub settle-uncounted : (v : VersionRecord) → counts r (v .status) ≡ false → settle r vs v ≡ v
+  unfolding settle
+  settle-uncounted v e = rw e
+
+  pub settle-lower : (v : VersionRecord) → v .version .0 < versionOf (own r (v .point .0) vs) → settle r vs v ≡ v
+  unfolding settle
+  settle-lower v h = rw (ne-eqb (v .version .0) (versionOf (own r (v .point .0) vs)) (λ e. omega arith), and-false)
+
+-- ---- the desk's table, and the versions held
+
+module _ (d : Desk) where
+  pub submitted-versions : (v : VersionRecord) → d .count < length (d .versions) → versionsIn (submittedDesk d v) ≡ submitted v (versionsIn d)
+  submitted-versions v h = rw add-one (take-suc-set (d .versions) (d .count) v h)
+
+  pub settled-versions : (run : ℕ) → d .count ≤ length (d .versions) → versionsIn (settledDesk d run) ≡ settledBy run (versionsIn d)
+  settled-versions run h = take-mapFirst (settle run (versionsIn d)) (d .versions) (d .count) h
+
+  pub noticed-versions : (p x y day : ℕ) → d .count ≤ length (d .versions)
+      → versionsIn (noticedDesk d (held p x (versionsIn d)) y day) ≡ noticed (d .opening .clearing .0) p x y day (versionsIn d)
+  noticed-versions p x y day h = go (held p x (versionsIn d)) (held-right p x (versionsIn d))
+    where
+      c : ℕ
+      c = d .opening .clearing .0
+
+      go : (k : Held) → HeldIn p x (versionsIn d) (length (versionsIn d)) k → take (d .count) (confirm c y day k (d .versions)) ≡ confirm c y day k (versionsIn d)
+      go Absent w = refl
+      go (Has i s) w =
+          let n = length-take-le (d .count) (d .versions) h in
+          let l : i < d .count = omega (arith, w .within) in
+          let v = recordAt (d .versions) i in
+          let same : recordAt (versionsIn d) i ≡ v = getD-take (d .count) (d .versions) i emptyVersion l in
+          cond-take (eqb y 1 && isCheck s) _ _
+          (take-set-lt (d .count) (d .versions) i (restatus (confirmedStatus c day) v) l ∙ ap (λ (x : VersionRecord). set (versionsIn d) i (restatus (confirmedStatus c day) x)) (sym same))
+        where
+          cond-take : (t : Bool) (a b : List VersionRecord) → take (d .count) a ≡ b → take (d .count) (cond t a (d .versions)) ≡ cond t b (versionsIn d)
+          cond-take true a b q = q
+          cond-take false a b q = refl

@@ -1,0 +1,6 @@
+pub mod Bounds
+pub mod Kept
+pub mod Lists
+pub mod Picks
+pub mod PointTable
+pub mod Starts

@@ -1,0 +1,190 @@
+-- Laws of the pick of a version, for any table: the selected version counts and no higher one does, the version found is the one asked for,
+-- and which changes leave them. Assumes nothing.
+use Prim.Native.Nat.{ℕ, suc, _<_}
+use mathlib.Core.Path.{_≡_, refl, sym, _∙_, subst}
+use mathlib.Core.Bool.{Bool, true, false, _||_, and-false, or-false, or-assoc, false≢true}
+use mathlib.Core.List.{List, [], _∷_, map}
+use native.Mathlib.Decide.{ℕ-discrete}
+use native.Mathlib.Omega.{arith}
+use borrow.Author.Tests.{ltb-true, ltb-false, ne-eqb, lt-ltb}
+use lib.Dec.{ltb, eqb}
+use lib.ListN.{length, set}
+use Rattle.quantity.proofs.Tests.{by-test}
+use Rattle.quantity.specs.Lists.{any}
+use Rattle.state.proofs.Lists.{walk-last, walk-map, walk-set, walk-keeps}
+use Rattle.state.specs.Change.{submitted}
+use Rattle.state.specs.Selection.{row, raise, raiseIf, best, isSelected, versionOf, isCounted, own, selected, IsHighest, Highest}
+use Rattle.state.specs.Status.{statusNumber, counts}
+use Rattle.state.specs.Walk.{walk}
+use Rattle.state.specs.Version.{emptyVersion, recordAt, isVersion, orHeld, held, HeldIn}
+use Rattle.state.specs.declared.Held.{Held}
+use Rattle.state.specs.declared.Held.the-variants.{Absent, Has}
+use Rattle.state.specs.declared.Selection.{Selection}
+use Rattle.state.specs.declared.Selection.the-variants.{None, Selected}
+use Rattle.state.specs.declared.Status.{Status}
+use Rattle.state.specs.declared.Status.the-variants.{Check, Settlement, Settled, Correction, CorrectionSettled}
+use Rattle.state.specs.declared.VersionRecord.{VersionRecord}
+use Rattle.state.specs.declared.VersionRow.{VersionRow}
+
+-- what holds of each index below i, and of i, holds of each below i + 1
+up-to : (P : ℕ → Type 0) (i : ℕ) → ((j : ℕ) → j < i → P j) → P i → (j : ℕ) → j < suc i → P j
+up-to P i h p j k = go (ℕ-discrete j i)
+  where
+    go : Dec (j ≡ i) → P j
+    go (yes e) = subst P (sym e) p
+    go (no ne) = h j (omega arith)
+
+never : {A : Type 0} (t : Bool) → t ≡ false → t ≡ true → A
+never t e h = absurd (false≢true (sym e ∙ h))
+
+module _ (f : VersionRecord → Bool) (vs : List VersionRecord) where
+  raise-right : (s : Selection) (i : ℕ) → f (recordAt vs i) ≡ true → Highest f vs i s → Highest f vs (suc i) (raise s i (recordAt vs i .version))
+  raise-right None i t h =
+      record {
+        within = omega arith;
+        version = refl;
+        passes = t;
+        most = up-to _ i (λ j k e. never (f (recordAt vs j)) (h j k) e) (λ _. omega arith);
+        first = λ j k e. never (f (recordAt vs j)) (h j k) e;
+      }
+  raise-right (Selected r) i t h =
+      let n = recordAt vs i .version in
+      by-test (Highest f vs (suc i)) (ltb (r .version .0) (n .0)) _ _
+      (λ e. record {
+        within = omega arith;
+        version = refl;
+        passes = t;
+        most = up-to _ i (λ j k p. omega (arith, h .most j k p, ltb-true (r .version .0) (n .0) e)) (λ _. omega arith);
+        first = λ j k p. omega (arith, h .most j k p, ltb-true (r .version .0) (n .0) e);
+      })
+      (λ e. record {
+        within = omega (arith, h .within);
+        version = h .version;
+        passes = h .passes;
+        most = up-to _ i (h .most) (λ _. ltb-false (r .version .0) (n .0) e);
+        first = h .first;
+      })
+
+  keep-right : (s : Selection) (i : ℕ) → f (recordAt vs i) ≡ false → Highest f vs i s → Highest f vs (suc i) s
+  keep-right None i t h = up-to _ i h t
+  keep-right (Selected r) i t h =
+      record {
+        within = omega (arith, h .within);
+        version = h .version;
+        passes = h .passes;
+        most = up-to _ i (h .most) (λ e. never (f (recordAt vs i)) t e);
+        first = h .first;
+      }
+
+  -- "the highest version of status 2 or 3": whatever the test, the one picked passes it, and none that passes is higher
+  pub best-highest : Highest f vs (length vs) (best f vs)
+  unfolding best
+  best-highest =
+      walk-keeps (raiseIf f) (Highest f vs) vs emptyVersion
+      (λ s i _ h. by-test (Highest f vs (suc i)) (f (recordAt vs i)) (raise s i (recordAt vs i .version)) s (λ t. raise-right s i t h) (λ t. keep-right s i t h))
+      None (λ j k. absurd (omega arith))
+
+  pub best-at : (r : VersionRow) → best f vs ≡ Selected r → IsHighest f vs (length vs) r
+  best-at r e = subst (Highest f vs (length vs)) e best-highest
+
+  -- one record more
+  pub best-last : (v : VersionRecord) → best f (submitted v vs) ≡ raiseIf f (best f vs) (length vs) v
+  unfolding best
+  best-last v = walk-last (raiseIf f) None vs v
+
+  -- one that does not pass leaves the pick
+  pub best-skips : (v : VersionRecord) → f v ≡ false → best f (submitted v vs) ≡ best f vs
+  best-skips v e = best-last v ∙ rw e
+
+  -- one that passes and is higher than all before is picked
+  pub best-newest : (v : VersionRecord) → f v ≡ true → versionOf (best f vs) < v .version .0 → best f (submitted v vs) ≡ row (length vs) (v .version)
+  best-newest v e h = best-last v ∙ rw e (go (best f vs) h)
+    where
+      go : (s : Selection) → versionOf s < v .version .0 → raise s (length vs) (v .version) ≡ row (length vs) (v .version)
+      go None k = refl
+      go (Selected r) k = rw (lt-ltb (r .version .0) (v .version .0) k)
+
+  -- a change of the records that leaves number and test leaves the pick
+  pub best-map : (g : VersionRecord → VersionRecord) → ((v : VersionRecord) → f (g v) ≡ f v) → ((v : VersionRecord) → g v .version ≡ v .version) → best f (map g vs) ≡ best f vs
+  unfolding best
+  best-map g p q = walk-map (raiseIf f) g (λ s i v. rw (p v, q v)) None 0 vs
+
+  -- and so does a change of one record
+  pub best-set : (k : ℕ) (w : VersionRecord) → f w ≡ f (recordAt vs k) → w .version ≡ recordAt vs k .version → best f (set vs k w) ≡ best f vs
+  unfolding best
+  best-set k w p q = walk-set (raiseIf f) vs k w emptyVersion (λ s i. rw (p, q)) None 0
+
+raise-selected : (f : VersionRecord → Bool) (s : Selection) (i : ℕ) (v : VersionRecord) → isSelected (raiseIf f s i v) ≡ (isSelected s || f v)
+raise-selected f s i v = by-test (λ (t : Selection). isSelected t ≡ (isSelected s || f v)) (f v) (raise s i (v .version)) s (λ e. rw e (go s)) (λ e. rw (e, or-false))
+  where
+    go : (s : Selection) → isSelected (raise s i (v .version)) ≡ (isSelected s || true)
+    go None = refl
+    go (Selected r) = by-test (λ (t : Selection). isSelected t ≡ true) (ltb (r .version .0) (v .version .0)) (row i (v .version)) (Selected r) (λ _. refl) (λ _. refl)
+
+-- there is a pick exactly where some record passes
+pub best-any : (f : VersionRecord → Bool) (vs : List VersionRecord) → isSelected (best f vs) ≡ any f vs
+unfolding best walk any
+best-any f vs = go None 0 vs
+  where
+    go : (s : Selection) (i : ℕ) (l : List VersionRecord) → isSelected (walk (raiseIf f) s i l) ≡ (isSelected s || any f l)
+    go s i [] = sym (or-false (isSelected s))
+    go s i (v ∷ l) = go (raiseIf f s i v) (suc i) l ∙ rw (raise-selected f s i v, or-assoc)
+
+module _ (p x : ℕ) (vs : List VersionRecord) where
+  -- the version found is the one asked for, and the first record of it
+  pub held-right : HeldIn p x vs (length vs) (held p x vs)
+  unfolding held
+  held-right = walk-keeps (orHeld p x) (HeldIn p x vs) vs emptyVersion (λ h i _ k. go h i k) Absent (λ j k. absurd (omega arith))
+    where
+      go : (h : Held) (i : ℕ) → HeldIn p x vs i h → HeldIn p x vs (suc i) (orHeld p x h i (recordAt vs i))
+      go Absent i k =
+          by-test (HeldIn p x vs (suc i)) (isVersion p x (recordAt vs i)) (Has i (recordAt vs i .status)) Absent
+          (λ e. record { within = omega arith; found = e; status = refl; first = k })
+          (λ e. up-to _ i k e)
+      go (Has j s) i k = record { within = omega (arith, k .within); found = k .found; status = k .status; first = k .first }
+
+-- ---- selections
+
+-- run 1 counts "status 2 or 3"
+pub counts-first : (s : Status) → counts 1 s ≡ (eqb (statusNumber s) 2 || eqb (statusNumber s) 3)
+counts-first Check = refl
+counts-first Settlement = refl
+counts-first Settled = refl
+counts-first Correction = refl
+counts-first CorrectionSettled = refl
+
+-- run 2's own are "of status 4 or 5"
+pub counts-second : (s : Status) → counts 2 s ≡ (eqb (statusNumber s) 4 || eqb (statusNumber s) 5)
+counts-second Check = refl
+counts-second Settlement = refl
+counts-second Settled = refl
+counts-second Correction = refl
+counts-second CorrectionSettled = refl
+
+-- the selected version has a status that counts at the point, and no higher one of the point counts
+pub own-highest : (run p : ℕ) (vs : List VersionRecord) → Highest (isCounted run p) vs (length vs) (own run p vs)
+own-highest run p vs = best-highest (isCounted run p) vs
+
+-- "Run 1 selects for a point the highest version of status 2 or 3."
+pub first-run : (p : ℕ) (vs : List VersionRecord) → selected 1 p vs ≡ own 1 p vs
+first-run p vs = refl
+
+-- "Run 2 selects the highest of status 4 or 5 (its own)"
+pub second-run : (p : ℕ) (vs : List VersionRecord) (r : VersionRow) → own 2 p vs ≡ Selected r → selected 2 p vs ≡ Selected r
+second-run p vs r e = rw e
+
+-- "and without one what run 1 selects"
+pub second-falls-back : (p : ℕ) (vs : List VersionRecord) → own 2 p vs ≡ None → selected 2 p vs ≡ selected 1 p vs
+second-falls-back p vs e = rw e
+
+-- where run 1's and run 2's own stay, so does what each run selects
+pub selected-kept : (run p : ℕ) (vs ws : List VersionRecord) → ((r : ℕ) → own r p ws ≡ own r p vs) → selected run p ws ≡ selected run p vs
+selected-kept run p vs ws e = rw (e 1, e 2)
+
+-- a submission at one point leaves the selection of every other
+pub submit-other : (run q : ℕ) (v : VersionRecord) (vs : List VersionRecord) → (v .point .0 ≡ q → ⊥) → own run q (submitted v vs) ≡ own run q vs
+submit-other run q v vs ne = best-skips (isCounted run q) vs v (rw (ne-eqb (v .point .0) q ne))
+
+-- a version of status 1 leaves all selections
+pub submit-check : (run q : ℕ) (v : VersionRecord) (vs : List VersionRecord) → v .status ≡ Check → own run q (submitted v vs) ≡ own run q vs
+submit-check run q v vs e = best-skips (isCounted run q) vs v (rw (e, and-false))

@@ -1,0 +1,84 @@
+-- The pick of a version: the highest of those that pass a test, and what a run selects for a point.
+use Prim.Native.Nat.{ℕ, _≤_, _<_}
+use mathlib.Core.Path.{_≡_}
+use mathlib.Core.Bool.{Bool, true, false, cond, _&&_}
+use mathlib.Core.List.{List}
+use lib.Dec.{ltb, eqb}
+use Rattle.quantity.specs.declared.Version.{Version}
+use Rattle.state.specs.Status.{counts}
+use Rattle.state.specs.Version.{isAt, recordAt}
+use Rattle.state.specs.Walk.{walk}
+use Rattle.state.specs.declared.VersionRecord.{VersionRecord}
+use Rattle.state.specs.declared.VersionRow.{VersionRow}
+use Rattle.state.specs.declared.Selection.{Selection}
+use Rattle.state.specs.declared.Selection.the-variants.{None, Selected}
+
+-- a row of the version table, selected
+abbrev pub row : (at : ℕ) → Version → Selection
+row i n = Selected (record { at = i; version = n })
+
+-- a version beside the highest so far: of equal ones, which only a dishonest table has, the first stays
+abbrev pub raise : Selection → (at : ℕ) → Version → Selection
+raise None i n = row i n
+raise (Selected r) i n = cond (ltb (r .version .0) (n .0)) (row i n) (Selected r)
+
+-- a record that passes the test is put beside it
+abbrev pub raiseIf : (VersionRecord → Bool) → Selection → (at : ℕ) → VersionRecord → Selection
+raiseIf f s i v = cond (f v) (raise s i (v .version)) s
+
+-- the highest version of those that pass the test
+unfoldable pub best : (VersionRecord → Bool) → List VersionRecord → Selection
+best f vs = walk (raiseIf f) None 0 vs
+
+-- whether there is one
+abbrev pub isSelected : Selection → Bool
+isSelected None = false
+isSelected (Selected r) = true
+
+-- the number of the version, 0 without one
+abbrev pub versionOf : Selection → ℕ
+versionOf None = 0
+versionOf (Selected r) = r .version .0
+
+-- "the point's highest", 0 without a version
+abbrev pub highest : (point : ℕ) → List VersionRecord → ℕ
+highest p vs = versionOf (best (isAt p) vs)
+
+-- "the point has a version"
+abbrev pub hasVersion : (point : ℕ) → List VersionRecord → Bool
+hasVersion p vs = isSelected (best (isAt p) vs)
+
+-- a version of the point whose status counts in the run
+abbrev pub isCounted : (run point : ℕ) → VersionRecord → Bool
+isCounted run p v = isAt p v && counts run (v .status)
+
+-- "the highest version of status 2 or 3"; for run 2 "the highest of status 4 or 5 (its own)"
+abbrev pub own : (run point : ℕ) → List VersionRecord → Selection
+own run p vs = best (isCounted run p) vs
+
+-- the first selection, and without one the second
+abbrev pub orElse : Selection → Selection → Selection
+orElse None t = t
+orElse (Selected r) t = Selected r
+
+-- a run's selection, of run 1's and run 2's own: "Run 2 selects the highest of status 4 or 5 (its own), and without one what run 1 selects."
+abbrev pub inRun : (run : ℕ) → (first second : Selection) → Selection
+inRun run s t = cond (eqb run 1) s (orElse t s)
+
+-- the selection of a run for a point
+abbrev pub selected : (run point : ℕ) → List VersionRecord → Selection
+selected run p vs = inRun run (own 1 p vs) (own 2 p vs)
+
+-- what a row of the version table is as the highest among the first n records: it stands there and passes the test, none that passes is
+-- higher, and none before it is as high
+pub record IsHighest (f : VersionRecord → Bool) (vs : List VersionRecord) (n : ℕ) (r : VersionRow) : Type 0 where
+  pub within : r .at < n
+  pub version : recordAt vs (r .at) .version ≡ r .version
+  pub passes : f (recordAt vs (r .at)) ≡ true
+  pub most : (j : ℕ) → j < n → f (recordAt vs j) ≡ true → recordAt vs j .version .0 ≤ r .version .0
+  pub first : (j : ℕ) → j < r .at → f (recordAt vs j) ≡ true → recordAt vs j .version .0 < r .version .0
+
+-- and without one none of them passes
+abbrev pub Highest : (VersionRecord → Bool) → List VersionRecord → ℕ → Selection → Type 0
+Highest f vs n None = (j : ℕ) → j < n → f (recordAt vs j) ≡ false
+Highest f vs n (Selected r) = IsHighest f vs n r

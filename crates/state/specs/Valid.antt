@@ -1,0 +1,73 @@
+-- Cause 1: "desk not open, or a count, row number, Q, deadline, day, delta group, opening length, or field of a point or version record in
+-- its state outside the limits above, used rows past the opening lengths included"
+use Prim.Native.Nat.{ℕ, _*_, _%_, _≤_}
+use mathlib.Core.Path.{_≡_}
+use mathlib.Core.Bool.{Bool, true, _&&_}
+use lib.Dec.{leb, ltb, eqb}
+use Rattle.quantity.specs.Limits.{mostQuarters, bookRows, versions, quartersOk, dayOk, deadlinesOk, versionOk, pointOk, groupOk}
+use Rattle.quantity.specs.Lists.{all}
+use Rattle.state.specs.Desk.{rowsIn, logRowsIn, versionsIn, rowsUsed}
+use Rattle.state.specs.Point.{seriesOk}
+use Rattle.state.specs.declared.Desk.{Desk}
+use Rattle.state.specs.declared.Opening.{Opening}
+use Rattle.state.specs.declared.PointState.{PointState}
+use Rattle.state.specs.declared.PointState.the-variants.{Free, Active}
+use Rattle.state.specs.declared.PointRecord.{PointRecord}
+use Rattle.state.specs.declared.VersionRecord.{VersionRecord}
+
+-- "Lent stores, lengths fixed at opening: values (any length), book (162 × Q), log (a multiple of 4)."
+unfoldable pub openingOk : Opening → Bool
+openingOk o =
+    quartersOk (o .quarters)
+    && (deadlinesOk (o .first .0) (o .clearing .0) (o .correction .0)
+    && (eqb (o .book) (bookRows * o .quarters)
+    && eqb (o .log % 4) 0))
+
+-- a field of a point record
+abbrev pub stateOk : PointState → Bool
+stateOk Free = true
+stateOk (Active since kind area partner) = dayOk (since .0) && seriesOk (kind .0) (area .0) (partner .0)
+
+-- the same of the record
+abbrev pub pointRecordOk : PointRecord → Bool
+pointRecordOk r = stateOk (r .state)
+
+-- a field of a version record; its row is one of the rows that the values have
+abbrev pub versionRecordOk : (rows : ℕ) → VersionRecord → Bool
+versionRecordOk n v = pointOk (v .point .0) && (versionOk (v .version .0) && ltb (v .row .0) n)
+
+-- all but the two tables: what the opening fixed, day, delta groups, the counts, "used rows past the opening lengths included"
+unfoldable pub frameOk : Desk → Bool
+frameOk d =
+    openingOk (d .opening)
+    && (dayOk (d .day .0)
+    && (all groupOk (d .groups)
+    && (leb (d .count) versions
+    && (leb (rowsUsed d) (rowsIn (d .opening))
+    && leb (d .used) (logRowsIn (d .opening))))))
+
+-- all points, and the versions held: records past the count are not looked at
+unfoldable pub validDesk : Desk → Bool
+validDesk d =
+    frameOk d && (all pointRecordOk (d .points) && all (versionRecordOk (rowsIn (d .opening))) (versionsIn d))
+
+-- what a line of the table of series gives
+pub record SeriesIn (k a b : ℕ) : Type 0 where
+  pub kind : k ≤ 5
+  pub area : a ≤ 16
+  pub partner : b ≤ 64
+
+-- what a valid desk gives
+pub record Sound (d : Desk) : Type 0 where
+  pub quarters : 1 ≤ d .opening .quarters
+  pub most : d .opening .quarters ≤ mostQuarters
+  pub deadlines : deadlinesOk (d .opening .first .0) (d .opening .clearing .0) (d .opening .correction .0) ≡ true
+  pub book : d .opening .book ≡ bookRows * d .opening .quarters
+  pub log : d .opening .log % 4 ≡ 0
+  pub day : d .day .0 ≤ 400
+  pub groups : all groupOk (d .groups) ≡ true
+  pub count : d .count ≤ versions
+  pub rows : rowsUsed d * d .opening .quarters ≤ d .opening .values
+  pub used : 4 * d .used ≤ d .opening .log
+  pub points : all pointRecordOk (d .points) ≡ true
+  pub versions : all (versionRecordOk (rowsIn (d .opening))) (versionsIn d) ≡ true

@@ -1,0 +1,105 @@
+// The desk's state: its points, its versions, what the opening fixed. It goes into a call by value and comes back.
+// The fields of the two tables are narrow, since the state is copied; a number from outside is tested before it is narrowed.
+pub mod fresh;
+pub mod selections;
+pub mod statuses;
+
+use quantity::Day;
+use quantity::Version;
+
+// A day from 0 to 400.
+pub struct ShortDay(pub u16);
+
+// A point from 1 to 256.
+pub struct ShortPoint(pub u16);
+
+// The kind of a series, from 1 to 5.
+pub struct Kind(pub u8);
+
+// An area from 1 to 16, or 0.
+pub struct Area(pub u8);
+
+// The other side of a series: an area, a balance group, or 0.
+pub struct Partner(pub u8);
+
+// A row of values: row i begins at i × Q.
+pub struct Row(pub u16);
+
+// "a point is either free or active since a day, with its kind, area and partner"
+pub enum PointState {
+    Free,
+    Active {
+        since: ShortDay,
+        kind: Kind,
+        area: Area,
+        partner: Partner,
+    },
+}
+
+pub struct PointRecord {
+    pub state: PointState,
+}
+
+// Check data, settlement data, settled, correction settlement data, correction settled.
+pub enum Status {
+    Check,
+    Settlement,
+    Settled,
+    Correction,
+    CorrectionSettled,
+}
+
+pub struct VersionRecord {
+    pub version: Version,
+    pub point: ShortPoint,
+    pub row: Row,
+    pub status: Status,
+}
+
+// What the opening fixes: Q (0: not open), the deadlines F, C and K, the lengths of the three stores.
+pub struct Opening {
+    pub quarters: u64,
+    pub first: Day,
+    pub clearing: Day,
+    pub correction: Day,
+    pub values: u64,
+    pub book: u64,
+    pub log: u64,
+}
+
+// A flag for each run.
+pub struct Runs {
+    pub first: bool,
+    pub second: bool,
+}
+
+// The first `count` records of `versions` are the versions held, in the order of their submission; what stands past them is nobody's.
+// `groups` are the delta groups of T and of areas 1 to 16; `used` counts the rows of the log.
+pub struct Desk {
+    pub opening: Opening,
+    pub day: Day,
+    pub groups: [u64; 17],
+    pub count: u64,
+    pub used: u64,
+    pub settled: Runs,
+    pub points: [PointRecord; 256],
+    pub versions: [VersionRecord; 512],
+}
+
+// A row of the version table: its index, and the number of the version there.
+pub struct VersionRow {
+    pub at: u64,
+    pub version: Version,
+}
+
+// The version that a run selects for a point, if there is one.
+pub enum Selection {
+    None,
+    Selected(VersionRow),
+}
+
+// A version that was asked for: where it stands in the version table, and its status.
+pub enum Held {
+    Absent,
+    Has { at: u64, status: Status },
+}

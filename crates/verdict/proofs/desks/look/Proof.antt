@@ -1,0 +1,40 @@
+-- `look` meets its contract. Assumes nothing.
+use lib.ListN.{length}
+use Rattle.quantity.proofs.Lists.{length-of}
+use mathlib.Core.Path.{_≡_}
+use Rattle.state.specs.Valid.{validDesk}
+use borrow.Author.Needs.{needs}
+use Rattle.verdict.proofs.desks.look.Statement.{statement}
+use Rattle.verdict.proofs.desks.look.Tie as tie
+
+table : (c : tie.Start) → length (c .args .d .versions) ≡ 512
+table c = search (needs, length-of)
+
+rows-in-requires : tie.Need-rows-in-requires
+rows-in-requires c κs = search needs
+
+survey-requires : tie.Need-survey-requires
+survey-requires c κs = search needs
+
+scan-requires : tie.Need-scan-requires
+scan-requires c κs = search needs
+
+frame-ok-requires : tie.Need-frame-ok-requires
+frame-ok-requires c κs = search needs
+
+returns : tie.Need-returns
+unfolding validDesk
+returns c =
+    let r = c .before .before .before .before .before .rows-in .ensures in
+    let s = rw r at (c .before .before .before .before .survey .ensures) in
+    let n = c .before .before .before .scan .ensures in
+    record {
+      valid = rw (c .before .before .frame-ok .ensures, n .fit, s .fit);
+      taken = n .taken;
+      table = table (c .before .before .before .before .before .before .before .before .before);
+      survey = s;
+    }
+
+pub look-spec : {M : Type 1} → statement M
+look-spec =
+    tie.close (tie.spec rows-in-requires survey-requires scan-requires frame-ok-requires returns)
