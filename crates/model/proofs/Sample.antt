@@ -3,6 +3,7 @@ use mathlib.Core.Path.{_≡_, refl}
 use mathlib.Core.List.{[], map}
 use Rattle.quantity.specs.Lists.{all, any, fold}
 use Rattle.quantity.specs.Sum.{sumTo}
+use Rattle.message.proofs.Theorems.{p12}
 use Rattle.state.specs.Point.{seriesOk}
 use Rattle.state.specs.Selection.{best}
 use Rattle.state.specs.Valid.{openingOk}
@@ -32,6 +33,7 @@ sample =
       p9 = record { answer = refl; number = refl };
       p10 = (record { answer = refl; number = refl }, record { answer = refl; number = refl });
       p11 = (record { answer = refl; number = refl }, record { answer = refl; number = refl });
+      p12 = p12;
     }
 
 pub example : Example (plainDesk (room 1))

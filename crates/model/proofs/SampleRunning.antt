@@ -64,6 +64,7 @@ module _ (s : Stores) (e : lengthsOf s ≡ room 2) where
         p9 = as-plain _ _ _ _ (S .p9);
         p10 = (as-plain _ _ _ _ (S .p10 .0), as-plain _ _ _ _ (S .p10 .1));
         p11 = (as-plain _ _ _ _ (S .p11 .0), as-plain _ _ _ _ (S .p11 .1));
+        p12 = S .p12;
       }
 
 module _ (s : Stores) (e : lengthsOf s ≡ room 1) where

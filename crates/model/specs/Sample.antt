@@ -7,6 +7,7 @@ use lib.ListN.{length, getD, replicate}
 use Rattle.quantity.specs.Limits.{groups, bookRows}
 use Rattle.quantity.specs.Sum.{sumTo}
 use Rattle.book.specs.Place.{groupRow, deltaRow}
+use Rattle.message.specs.File.{verdictOf, refusalOf, offsetOf}
 use Rattle.state.specs.declared.Status.the-variants.{Check, Settlement, Correction}
 use Rattle.model.specs.Agreement.{replies, end, fresh, bookFigure, lend}
 use Rattle.model.specs.Call.{Call, opens, activates, submits, notices, asks, Stores, Lengths, telling, answerNumber, Reply}
@@ -99,7 +100,7 @@ total d l run q = sumTo groups (λ (g : ℕ). d .figures l run (groupRow g) q)
 abbrev pub TotalIs : Account → (run : ℕ) → (first second : ℤ) → Type 0
 TotalIs d run a b = (total d month run 0 ≡ a) × (total d month run 1 ≡ b)
 
--- P1 to P11, in both runs
+-- P1 to P12, the figures in both runs
 pub record Sample (d : Account) : Type 0 where
   -- each call of the month is accepted
   pub taken : d .answers month ≡ replicate 13 Accepted
@@ -121,7 +122,8 @@ pub record Sample (d : Account) : Type 0 where
   -- "P11 a submitted energy 10^12 is taken, 10^12+1 is 3."
   pub p11 : Says d month (submits 1 2 10 (two (pos 1000000000000) (negsuc 999999999999))) Accepted 0
       × Says d month (submits 1 2 10 (two (pos 1) (pos 1000000000001))) (Refused BadField) 3
-  -- P12, "a file `80 00` is 32 at offset 0", is the reader's: its field stands here once the reader's definition does
+  -- "P12 a file `80 00` is 32 at offset 0.": of any desk, since the reader stands before it
+  pub p12 : (refusalOf (verdictOf (128 ∷ 0 ∷ [])) ≡ 32) × (offsetOf (verdictOf (128 ∷ 0 ∷ [])) ≡ 0)
 
 -- the example file's calls: open, activate, submit, submit again
 unfoldable pub file : List Call

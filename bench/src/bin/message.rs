@@ -1,0 +1,167 @@
+//! A valid message file checked by the host's entry and by the reader in plain Rust.
+//!
+//!     message                        a line for each file and size: nanoseconds a check of both
+//!     message linked|rust FILE SIZE  one check by one of them, for a count of its instructions
+//!
+//! Three files: `month` has submissions whose energies are of one level each, as a network's are, `mixed` has energies
+//! of any number of bytes from one to six, `calls` has calls without a series alone.
+//!
+//! Neither reader has a buffer to clear: both only read the file, and both have read it before the first round.
+
+use emorizugu_bench::best;
+use emorizugu_tests::generator::Random;
+use emorizugu_tests::{linked, message, numbers};
+use std::arch::asm;
+use std::env;
+use std::hint::black_box;
+use std::process::exit;
+
+const FILES: [&str; 3] = ["month", "mixed", "calls"];
+const SIZES: [usize; 3] = [64 << 10, 1 << 20, 16 << 20];
+
+/// Bytes that each checks in a round, if the file is not longer, and in all rounds.
+const ROUND: usize = 256 << 10;
+const TOTAL: usize = 80 << 20;
+
+/// Where the linker puts the readers, in steps of 16 bytes: `PLACE` at the build. Branches at other places in the
+/// processor's lines can take more than half as much time again, so the readers are timed at several.
+const PLACE: usize = match option_env!("PLACE") {
+    Some(digit) => (digit.as_bytes()[0] - b'0') as usize,
+    None => 0,
+};
+
+/// Bytes that move what the linker puts behind them.
+#[inline(never)]
+fn space() {
+    unsafe { asm!("jmp 2f", ".skip {}", "2:", const 16 * PLACE) }
+}
+
+/// The host's entry, under a name for the count of its instructions.
+#[no_mangle]
+#[inline(never)]
+pub fn bench_linked(file: &[u8]) -> u64 {
+    linked::file_refusal(file)
+}
+
+/// The reader in plain Rust, called as the host's entry is.
+#[no_mangle]
+#[inline(never)]
+pub fn bench_rust(file: &[u8]) -> u64 {
+    numbers::verdict(file).0
+}
+
+/// A file as it grows, and room for one call.
+struct Growing {
+    file: Vec<u8>,
+    call: Vec<u8>,
+    random: Random,
+}
+
+impl Growing {
+    fn append(&mut self, kind: u64, fields: &[u64], series: &[u64]) {
+        let length = message::write(kind, fields, series, &mut self.call).expect("a call");
+        self.file.extend_from_slice(&self.call[..length]);
+    }
+
+    /// A submission of 2,976 energies.
+    fn submission(&mut self, mut energy: impl FnMut(&mut Random) -> u64) {
+        let series: Vec<u64> = (0..2_976).map(|_| energy(&mut self.random)).collect();
+        let point = 1 + self.random.below(256) as u64;
+        self.append(message::SUBMIT, &[point, 20_250_101_120_000, 2], &series);
+    }
+
+    /// A call without a series, as a desk would get it.
+    fn short(&mut self) {
+        let point = 1 + self.random.below(256) as u64;
+        let day = self.random.below(400) as u64;
+        match self.random.below(6) {
+            0 => {
+                let mut fields = [3; message::MOST_FIELDS];
+                fields[..7].copy_from_slice(&[2_976, 10, 30, 150, 4, 1, 2]);
+                self.append(1, &fields, &[]);
+            }
+            1 => self.append(2, &[point, 2, 1, 5, day], &[]),
+            2 => self.append(3, &[point, day], &[]),
+            3 => self.append(5, &[point, 20_250_101_120_000, 1, day], &[]),
+            4 => self.append(6, &[3, 17, day], &[]),
+            _ => self.append(7, &[1, day], &[]),
+        }
+    }
+
+    /// The next call of a file of this name.
+    fn grow(&mut self, name: &str) {
+        match name {
+            "month" => {
+                let level = 1_000 << self.random.below(12);
+                self.submission(|random| (level / 2 + random.below(level)) as u64);
+            }
+            "mixed" => self.submission(|random| random.bits(40)),
+            _ => self.short(),
+        }
+    }
+}
+
+/// A valid file of exactly `size` bytes.
+fn file(name: &str, size: usize) -> Vec<u8> {
+    let mut growing = Growing {
+        file: Vec::new(),
+        call: vec![0; 1 << 16],
+        random: Random::new(5),
+    };
+    let mut whole = 0;
+    while growing.file.len() + 6 <= size {
+        whole = growing.file.len();
+        growing.grow(name);
+    }
+    growing.file.truncate(whole);
+    // Settles of three and four bytes fill the rest, which has at least six.
+    while growing.file.len() < size {
+        let day = match (size - growing.file.len()) % 3 {
+            0 => 31,
+            _ => 151,
+        };
+        growing.append(7, &[1, day], &[]);
+    }
+    growing.file
+}
+
+/// Times both on each file, by turns.
+fn time() {
+    for name in FILES {
+        for size in SIZES {
+            let file = file(name, size);
+            assert_eq!(file.len(), size);
+            assert_eq!((bench_linked(&file), bench_rust(&file)), (0, 0));
+            let linked = || {
+                black_box(bench_linked(black_box(&file)));
+            };
+            let rust = || {
+                black_box(bench_rust(black_box(&file)));
+            };
+            let calls = (ROUND / size).max(1);
+            let (linked, rust) = best(TOTAL / (calls * size), calls, linked, rust);
+            println!("{name} {size} {linked:.0} {rust:.0}");
+        }
+    }
+}
+
+fn main() {
+    let words: Vec<String> = env::args().skip(1).collect();
+    let words: Vec<&str> = words.iter().map(String::as_str).collect();
+    match words[..] {
+        [] => time(),
+        [which @ ("linked" | "rust"), name, size] if FILES.contains(&name) => {
+            let file = file(name, size.parse().expect("a size in bytes"));
+            let answer = match which {
+                "linked" => bench_linked(&file),
+                _ => bench_rust(&file),
+            };
+            println!("{which} {name} {size}: {answer}");
+        }
+        _ => {
+            space();
+            eprintln!("usage: message [linked|rust month|mixed|calls SIZE]");
+            exit(2);
+        }
+    }
+}

@@ -1,0 +1,171 @@
+/*
+ * A host program: it says whether a message file is whole, and prints a balance group's month from a book.
+ *
+ *     host MESSAGE-FILE BOOK-FILE QUARTERS RUN GROUP
+ *
+ * Exit status: 0 where both could be read, 1 where the message file is refused (its verdict and the month are printed
+ * all the same), 2 where there is nothing to print: wrong arguments, a file that cannot be read, a book of another
+ * length, a number outside its range. A message on standard error says which.
+ */
+#include <errno.h>
+#include <inttypes.h>
+#include <stdint.h>
+#include <stdio.h>
+#include <stdlib.h>
+#include <string.h>
+
+#include "emorizugu.h"
+
+enum { READ = 0, REFUSED = 1, UNREADABLE = 2 };
+
+/* A file's bytes; `bytes` is never NULL once the file is read. */
+struct file {
+    uint8_t *bytes;
+    size_t length;
+};
+
+/* Reads the rest of a stream to memory that grows with it. 0, or the number of the error. */
+static int read_stream(FILE *stream, struct file *file) {
+    size_t room = 0;
+    do {
+        uint8_t *grown;
+        room = room == 0 ? 4096 : 2 * room;
+        grown = realloc(file->bytes, room);
+        if (grown == NULL)
+            return ENOMEM;
+        file->bytes = grown;
+        file->length += fread(file->bytes + file->length, 1, room - file->length, stream);
+    } while (file->length == room);
+    if (!ferror(stream))
+        return 0;
+    return errno != 0 ? errno : EIO;
+}
+
+/* Reads a whole file; says what is wrong where it cannot. The caller frees the bytes, also then. */
+static int read_file(const char *name, struct file *file) {
+    FILE *stream = fopen(name, "rb");
+    int error;
+    file->bytes = NULL;
+    file->length = 0;
+    error = stream == NULL ? errno : read_stream(stream, file);
+    if (stream != NULL)
+        fclose(stream);
+    if (error != 0)
+        fprintf(stderr, "host: %s: %s\n", name, strerror(error));
+    return error == 0;
+}
+
+/* Reads a decimal number of digits alone; says what is wrong where it is none or has more than 64 bits. */
+static int read_number(const char *word, const char *what, uint64_t *number) {
+    uint64_t value = 0;
+    const char *at = word;
+    while (*at >= '0' && *at <= '9') {
+        uint64_t digit = (uint64_t)(*at - '0');
+        if (value > (UINT64_MAX - digit) / 10)
+            break;
+        value = 10 * value + digit;
+        at++;
+    }
+    *number = value;
+    if (at != word && *at == '\0')
+        return 1;
+    fprintf(stderr, "host: %s is no number from 0 to 2^64 - 1: \"%s\"\n", what, word);
+    return 0;
+}
+
+static const char *cause(uint64_t refusal) {
+    switch (refusal) {
+    case EMORIZUGU_ENDS:
+        return "the file ends inside a call";
+    case EMORIZUGU_FORM:
+        return "a number is not in its shortest form, or its ninth byte has the top bit set";
+    case EMORIZUGU_KIND:
+        return "a call's kind is not 1 to 7";
+    case EMORIZUGU_COUNT:
+        return "a submission counts more than 2980 energies";
+    default:
+        return "unknown cause";
+    }
+}
+
+/* Prints the verdict on a message file. */
+static int print_verdict(const char *name, const struct file *file) {
+    uint64_t refusal = emorizugu_file_refusal(file->bytes, file->length);
+    uint64_t offset = emorizugu_file_offset(file->bytes, file->length);
+    if (refusal == EMORIZUGU_ACCEPTED) {
+        printf("%s: accepted, %" PRIu64 " bytes\n", name, offset);
+        return READ;
+    }
+    printf("%s: refused with %" PRIu64 " at offset %" PRIu64 ": %s\n", name, refusal, offset, cause(refusal));
+    return REFUSED;
+}
+
+/* A word in two's complement as a signed number. */
+static int64_t signed_reading(uint64_t word) {
+    return word <= INT64_MAX ? (int64_t)word : -(int64_t)(UINT64_MAX - word) - 1;
+}
+
+/* Adds a figure to a sum. 0 where the result has more than 64 bits, and the sum stays. */
+static int add(int64_t *sum, int64_t figure) {
+    if (figure > 0 ? *sum > INT64_MAX - figure : *sum < INT64_MIN - figure)
+        return 0;
+    *sum += figure;
+    return 1;
+}
+
+/* Prints a group's month, a line a quarter hour, and its sum, which only figures that are no desk's take past 64 bits. */
+static void print_month(const struct file *book, uint64_t quarters, uint64_t run, uint64_t group) {
+    int64_t sum = 0;
+    int fits = 1;
+    uint64_t quarter;
+    printf("run %" PRIu64 ", group %" PRIu64 "\n%12s %20s\n", run, group, "quarter hour", "watt-hours");
+    for (quarter = 1; quarter <= quarters; quarter++) {
+        uint64_t word = emorizugu_figure(book->bytes, book->length, quarters, run, group, quarter);
+        int64_t figure = signed_reading(word);
+        printf("%12" PRIu64 " %20" PRId64 "\n", quarter, figure);
+        fits = fits && add(&sum, figure);
+    }
+    if (fits)
+        printf("%12s %20" PRId64 "\n", "sum", sum);
+    else
+        printf("%12s %20s\n", "sum", "beyond 64 bits");
+}
+
+/* Whether the book has this month; says what is wrong where it has not. */
+static int has_month(const char *name, const struct file *book, uint64_t quarters, uint64_t run, uint64_t group) {
+    switch (emorizugu_figure_refusal(book->bytes, book->length, quarters, run, group, 1)) {
+    case EMORIZUGU_ACCEPTED:
+        return 1;
+    case EMORIZUGU_LENGTH:
+        fprintf(stderr, "host: %s: a book of %" PRIu64 " quarter hours has %" PRIu64 " bytes, not %zu\n", name,
+                quarters, EMORIZUGU_BOOK_BYTES * quarters, book->length);
+        return 0;
+    default:
+        fprintf(stderr, "host: QUARTERS is 1 to %d, RUN 1 to %d, GROUP 1 to %d\n", EMORIZUGU_QUARTERS,
+                EMORIZUGU_RUNS, EMORIZUGU_GROUPS);
+        return 0;
+    }
+}
+
+int main(int argc, char **argv) {
+    struct file message = {NULL, 0}, book = {NULL, 0};
+    uint64_t quarters, run, group;
+    int status = UNREADABLE;
+    if (argc != 6) {
+        fprintf(stderr, "usage: host MESSAGE-FILE BOOK-FILE QUARTERS RUN GROUP\n");
+        return UNREADABLE;
+    }
+    if (read_number(argv[3], "QUARTERS", &quarters) && read_number(argv[4], "RUN", &run)
+        && read_number(argv[5], "GROUP", &group) && read_file(argv[1], &message) && read_file(argv[2], &book)
+        && has_month(argv[2], &book, quarters, run, group)) {
+        status = print_verdict(argv[1], &message);
+        print_month(&book, quarters, run, group);
+    }
+    free(message.bytes);
+    free(book.bytes);
+    if (fflush(stdout) != 0) {
+        fprintf(stderr, "host: standard output: %s\n", strerror(errno));
+        return UNREADABLE;
+    }
+    return status;
+}

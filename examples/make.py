@@ -1,0 +1,91 @@
+#!/usr/bin/env python3
+"""Writes the files that the host example is run on, to the folder given or to its own.
+
+Message files: `example.msg` is the one that document 01 writes out; the others are empty or damaged, and each is
+refused for one cause. Books, both of two quarter hours: `month.book` has the figures of document 01's sample month,
+`edges.book` figures at both ends of the 64-bit range, and `short.book` lacks its last byte.
+"""
+
+import pathlib
+import struct
+import sys
+
+# Open, activate, and one submission sent twice.
+OPEN = bytes.fromhex("01 01 0A 1E 96 01 04 01 02") + 14 * b"\x03"
+ACTIVATE = bytes.fromhex("02 01 01 01 00 00")
+SUBMIT = bytes.fromhex("04 01 07 02 01 D0 0F")
+EXAMPLE = OPEN + ACTIVATE + SUBMIT + SUBMIT
+
+MESSAGES = {
+    "example.msg": EXAMPLE,
+    "empty.msg": b"",
+    # 31: the second submission lacks its last byte.
+    "cut.msg": EXAMPLE[:-1],
+    # 32: 0 in two bytes.
+    "longer.msg": bytes.fromhex("80 00"),
+    # 32: after the open a settle whose run has ten bytes.
+    "ninth.msg": OPEN + b"\x07" + 9 * b"\xff" + b"\x01\x1f",
+    # 33: after the activation a call of kind 8.
+    "kind.msg": OPEN + ACTIVATE + bytes.fromhex("08 01 1F"),
+    # 34: a submission of 2,981 energies, none of which follows.
+    "count.msg": OPEN + ACTIVATE + bytes.fromhex("04 01 07 02 A5 17"),
+}
+
+QUARTERS = 2
+DELTA_T = 64
+MOST = 2**63 - 1
+LEAST = -(2**63)
+
+
+def group(number):
+    """The row of a balance group."""
+    return number - 1
+
+
+def area(number):
+    """The row of an area's delta."""
+    return 64 + number
+
+
+# Row: figures. Each delta is also added to its delta group, T to 4, area 1 to 1, area 2 to 2.
+MONTH = {
+    group(1): (11000, 7000),
+    group(2): (30200, 19900),
+    group(4): (300, -100),
+    group(5): (50000, 45000),
+    group(6): (8500, 8200),
+    DELTA_T: (300, -100),
+    area(1): (11000, 7000),
+    area(2): (30200, 19900),
+}
+
+EDGES = {
+    group(1): (MOST, 1),
+    group(2): (LEAST, -1),
+    group(64): (MOST, LEAST),
+}
+
+
+def book(run_1, run_2):
+    """A book's bytes: two runs of 81 rows, eight bytes a figure, lowest first, two's complement."""
+    nothing = (0,) * QUARTERS
+    rows = [run.get(row, nothing) for run in (run_1, run_2) for row in range(81)]
+    return b"".join(struct.pack("<q", figure) for row in rows for figure in row)
+
+
+BOOKS = {
+    "month.book": book(MONTH, MONTH),
+    "edges.book": book({}, EDGES),
+    "short.book": book(MONTH, MONTH)[:-1],
+}
+
+
+def main():
+    own = pathlib.Path(__file__).resolve().parent
+    folder = pathlib.Path(sys.argv[1]) if len(sys.argv) > 1 else own
+    for name, content in {**MESSAGES, **BOOKS}.items():
+        (folder / name).write_bytes(content)
+
+
+if __name__ == "__main__":
+    main()

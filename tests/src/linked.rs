@@ -1,0 +1,95 @@
+//! The functions of the static libraries `host` and `drive`, each behind a safe function. None of them asks anything
+//! of its caller, so a slice's pointer and length are all that there is to get right.
+
+extern "C" {
+    fn emorizugu_file_refusal(file: *const u8, len: usize) -> u64;
+    fn emorizugu_file_offset(file: *const u8, len: usize) -> u64;
+    fn emorizugu_figure_refusal(
+        book: *const u8,
+        len: usize,
+        quarters: u64,
+        run: u64,
+        group: u64,
+        quarter: u64,
+    ) -> u64;
+    fn emorizugu_figure(
+        book: *const u8,
+        len: usize,
+        quarters: u64,
+        run: u64,
+        group: u64,
+        quarter: u64,
+    ) -> u64;
+    fn drive_read(
+        file: *const u8,
+        len: usize,
+        start: u64,
+        series: *mut u64,
+        series_len: usize,
+        out: *mut u64,
+        out_len: usize,
+    ) -> u64;
+    fn drive_write(
+        kind: u64,
+        fields: *const u64,
+        fields_len: usize,
+        series: *const u64,
+        series_len: usize,
+        output: *mut u8,
+        output_len: usize,
+        out: *mut u64,
+        out_len: usize,
+    ) -> u64;
+}
+
+/// `emorizugu_file_refusal`.
+pub fn file_refusal(file: &[u8]) -> u64 {
+    unsafe { emorizugu_file_refusal(file.as_ptr(), file.len()) }
+}
+
+/// `emorizugu_file_offset`.
+pub fn file_offset(file: &[u8]) -> u64 {
+    unsafe { emorizugu_file_offset(file.as_ptr(), file.len()) }
+}
+
+/// `emorizugu_figure_refusal`.
+pub fn figure_refusal(book: &[u8], quarters: u64, run: u64, group: u64, quarter: u64) -> u64 {
+    unsafe { emorizugu_figure_refusal(book.as_ptr(), book.len(), quarters, run, group, quarter) }
+}
+
+/// `emorizugu_figure`.
+pub fn figure(book: &[u8], quarters: u64, run: u64, group: u64, quarter: u64) -> u64 {
+    unsafe { emorizugu_figure(book.as_ptr(), book.len(), quarters, run, group, quarter) }
+}
+
+/// `drive_read`.
+pub fn read(file: &[u8], start: u64, series: &mut [u64], out: &mut [u64]) -> u64 {
+    unsafe {
+        drive_read(
+            file.as_ptr(),
+            file.len(),
+            start,
+            series.as_mut_ptr(),
+            series.len(),
+            out.as_mut_ptr(),
+            out.len(),
+        )
+    }
+}
+
+/// `drive_write`.
+pub fn write(kind: u64, fields: &[u64], series: &[u64], output: &mut [u8], out: &mut [u64]) -> u64 {
+    unsafe {
+        drive_write(
+            kind,
+            fields.as_ptr(),
+            fields.len(),
+            series.as_ptr(),
+            series.len(),
+            output.as_mut_ptr(),
+            output.len(),
+            out.as_mut_ptr(),
+            out.len(),
+        )
+    }
+}
