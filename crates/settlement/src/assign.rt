@@ -1,0 +1,72 @@
+// Assign: a delta moves to another group, in both runs.
+use amend::delta::move_delta;
+use change::changes::on_day;
+use change::changes::with_group;
+use desk::checks::at_work;
+use desk::checks::refuse;
+use lookup::limits::valid;
+use model::Answer;
+use model::Cause;
+use model::Verdict;
+use quantity::Day;
+use quantity::limits::day_ok;
+use quantity::limits::delta_ok;
+use quantity::limits::group_ok;
+use state::Desk;
+use verdict::Outcome;
+use verdict::rules::or_if;
+ghost use Prim.Native.Nat.{ℕ};
+ghost use mathlib.Core.Path.{_≡_};
+ghost use mathlib.Core.Bool.{true};
+ghost use mathlib.Core.List.{List};
+ghost use lib.ListN.{length};
+ghost use Rattle.quantity.specs.Limits.{deltaOk, groupOk};
+ghost use Rattle.state.specs.Valid.{Sound};
+ghost use Rattle.model.specs.Call.{assigns, telling};
+ghost use Rattle.model.specs.Step.{refusalBy, granting, step};
+ghost use Rattle.model.specs.declared.Answer.the-variants.{Accepted};
+ghost use Rattle.verdict.specs.Stepped.{BookStepped, storesOf, lent};
+ghost use Rattle.desk.specs.Lent.{sizes};
+
+pub fn assign_verdict(d: Desk, size: u64, area: u64, group: u64, day: Day) -> Verdict
+    ensures { λ r. ⌜ ((values log : ℕ) → r ≡ refusalBy d (telling (sizes values size log) (assigns area group (day .0)))) ⌝ }
+{
+    let opening = d.opening;
+    let v0 = at_work(valid(d), opening);
+    let v1 = or_if(v0, size != opening.book, Cause::WrongLength);
+    let fits = delta_ok(area) & (group_ok(group) & day_ok(day));
+    let v2 = or_if(v1, !fits, Cause::BadField);
+    let v3 = or_if(v2, day.0 < d.day.0, Cause::PastDay);
+    or_if(v3, opening.clearing.0 < day.0, Cause::AfterClearing)
+}
+
+pub fn assigned(d: Desk, area: u64, group: u64, day: Day, book: &mut [u64]) -> Desk
+    requires { ⌜ Sound d ⌝ }
+    requires { ⌜ (deltaOk area ≡ true) × (groupOk group ≡ true) ⌝ }
+    requires { ⌜ length (now book) ≡ d .opening .book ⌝ }
+    ensures { λ r. ⌜ ((values log : List ℕ) → BookStepped (granting d (storesOf values (now (book .entry)) log) (assigns area group (day .0))) Accepted r (now (book .exit))) ⌝ }
+{
+    let opening = d.opening;
+    let groups = d.groups;
+    let i = area as usize;
+    let old = groups[i];
+    move_delta(area, old, group, opening.quarters as usize, book);
+    let n = with_group(d, area, group);
+    on_day(n, day)
+}
+
+pub fn assign(d: Desk, area: u64, group: u64, day: Day, book: &mut [u64]) -> Outcome
+    ensures { λ r. ⌜ ((values log : List ℕ) → BookStepped (step d (lent (assigns area group (day .0)) (storesOf values (now (book .entry)) log))) (r .answer) (r .desk) (now (book .exit))) ⌝ }
+{
+    let v = assign_verdict(d, book.len() as u64, area, group, day);
+    match v {
+        Verdict::Refuse(c) => refuse(d, c),
+        Verdict::Fine => {
+            let n = assigned(d, area, group, day, book);
+            Outcome {
+                answer: Answer::Accepted,
+                desk: n,
+            }
+        }
+    }
+}

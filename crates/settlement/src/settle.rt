@@ -1,0 +1,85 @@
+// Settle: the versions that a run selects get the status of settled ones, and the run its flag.
+use change::changes::on_day;
+use change::changes::with_settled;
+use change::settling::with_run_settled;
+use desk::checks::at_work;
+use desk::checks::refuse;
+use lookup::limits::valid;
+use model::Answer;
+use model::Cause;
+use model::Verdict;
+use quantity::Day;
+use quantity::limits::day_ok;
+use quantity::limits::run_ok;
+use state::Desk;
+use state::Opening;
+use state::Runs;
+use verdict::Outcome;
+use verdict::rules::or_if;
+ghost use mathlib.Core.Path.{_≡_};
+ghost use mathlib.Core.Bool.{true};
+ghost use Rattle.state.specs.Change.{settledDesk};
+ghost use Rattle.state.specs.Desk.{onDay, withSettled, flagOf, flagged};
+ghost use Rattle.state.specs.Valid.{validDesk};
+ghost use Rattle.model.specs.Call.{Stores, Lengths, settles, telling};
+ghost use Rattle.model.specs.Causes.{deadline};
+ghost use Rattle.model.specs.Step.{refusalBy, step};
+ghost use Rattle.verdict.specs.Stepped.{Answered, lent};
+
+// The last day before a run can be settled.
+pub fn deadline_of(opening: Opening, run: u64) -> Day
+    ensures { λ r. ⌜ r .0 ≡ deadline opening run ⌝ }
+{
+    let clearing = opening.clearing;
+    let correction = opening.correction;
+    if run == 1 { clearing } else { correction }
+}
+
+// Whether the run is settled.
+pub fn flag_of(settled: Runs, run: u64) -> bool
+    ensures { λ r. ⌜ r ≡ flagOf run settled ⌝ }
+{
+    if run == 1 {
+        settled.first
+    } else {
+        settled.second
+    }
+}
+
+pub fn settle_verdict(d: Desk, run: u64, day: Day) -> Verdict
+    ensures { λ r. ⌜ ((n : Lengths) → r ≡ refusalBy d (telling n (settles run (day .0)))) ⌝ }
+{
+    let opening = d.opening;
+    let settled = d.settled;
+    let last = deadline_of(opening, run);
+    let v0 = at_work(valid(d), opening);
+    let v1 = or_if(v0, !(run_ok(run) & day_ok(day)), Cause::BadField);
+    let v2 = or_if(v1, day.0 < d.day.0, Cause::PastDay);
+    let v3 = or_if(v2, day.0 <= last.0, Cause::SettleTooEarly);
+    let v4 = or_if(v3, flag_of(settled, run), Cause::AlreadySettled);
+    or_if(v4, (run == 2) & !settled.first, Cause::FirstRunOpen)
+}
+
+pub fn settled(d: Desk, run: u64, day: Day) -> Desk
+    requires { ⌜ validDesk d ≡ true ⌝ }
+    ensures { λ r. ⌜ r ≡ onDay (withSettled (settledDesk d run) (flagged run (d .settled))) (day .0) ⌝ }
+{
+    let n = with_settled(with_run_settled(d, run), run);
+    on_day(n, day)
+}
+
+pub fn settle(d: Desk, run: u64, day: Day) -> Outcome
+    ensures { λ r. ⌜ ((s : Stores) → Answered (step d (lent (settles run (day .0)) s)) (r .answer) (r .desk)) ⌝ }
+{
+    let v = settle_verdict(d, run, day);
+    match v {
+        Verdict::Refuse(c) => refuse(d, c),
+        Verdict::Fine => {
+            let n = settled(d, run, day);
+            Outcome {
+                answer: Answer::Accepted,
+                desk: n,
+            }
+        }
+    }
+}
