@@ -23,7 +23,8 @@ use Rattle.model.specs.declared.Verdict.{Verdict}
 use Rattle.model.specs.declared.Verdict.the-variants.{Fine, Refuse}
 use Rattle.desk.specs.Lent.{sizes}
 use Rattle.verdict.specs.Stepped.{Answered, BookStepped, Stepped, lent}
-use Rattle.model.proofs.Rules.{Passed, passed}
+use Rattle.model.specs.Laws.{Passed}
+use Rattle.model.proofs.Rules.{passed}
 
 -- one check more: the verdict so far, and the test, as the table has them
 pub checked : {v w r : Verdict} {t s : Bool} (c : Cause) → r ≡ orIf v t c → v ≡ w → t ≡ s → r ≡ orIf w s c
