@@ -6,13 +6,14 @@ use book::place::row_start;
 use book::posting::post;
 ghost use mathlib.Core.Path.{_≡_};
 ghost use Prim.Native.Nat.{_≤_};
+ghost use Rattle.quantity.specs.Limits.{areas, groups};
 ghost use Rattle.model.specs.Step.{moveRun, moved};
 ghost use Rattle.amend.specs.Lent.{BookIn};
 
 // One run: out of the old group's row, into the new one's.
-pub fn move_run(run: usize, area: u64, old: u64, new: u64, q: usize, book: &mut [u64])
+fn move_run(run: usize, area: u64, old: u64, new: u64, q: usize, book: &mut [u64])
     requires { ⌜ BookIn run q (now book) ⌝ }
-    requires { ⌜ (area ≤ 16) × (old ≤ 64) × (new ≤ 64) ⌝ }
+    requires { ⌜ (area ≤ areas) × (old ≤ groups) × (new ≤ groups) ⌝ }
     ensures { λ _. ⌜ now (book .exit) ≡ moveRun run q area old new (now (book .entry)) ⌝ }
 {
     let mut row = [0u64; 2980];
@@ -27,7 +28,7 @@ pub fn move_run(run: usize, area: u64, old: u64, new: u64, q: usize, book: &mut 
 // Both runs.
 pub fn move_delta(area: u64, old: u64, new: u64, q: usize, book: &mut [u64])
     requires { ⌜ BookIn 1 q (now book) ⌝ }
-    requires { ⌜ (area ≤ 16) × (old ≤ 64) × (new ≤ 64) ⌝ }
+    requires { ⌜ (area ≤ areas) × (old ≤ groups) × (new ≤ groups) ⌝ }
     ensures { λ _. ⌜ now (book .exit) ≡ moved q area old new (now (book .entry)) ⌝ }
 {
     move_run(1, area, old, new, q, book);

@@ -11,12 +11,14 @@ use state::Selection;
 ghost use mathlib.Core.Path.{_≡_};
 ghost use Prim.Native.Nat.{_+_, _≤_, _<_};
 ghost use lib.ListN.{length};
+ghost use Rattle.quantity.specs.Limits.{runRows};
 ghost use Rattle.book.specs.declared.Way.the-variants.{In, Out};
 ghost use Rattle.model.specs.Log.{differ};
 ghost use Rattle.model.specs.Step.{postFrom, amendRow, amendSide, amendSides};
 ghost use Rattle.amend.specs.Lent.{PlaceIn, BookIn, SideIn, SidesIn};
 
-pub fn post_from(way: Way, book: &mut [u64], start: usize, q: usize, values: &[u64], from: Place)
+// A series posted to the row at a start; where there is none, the row stays.
+fn post_from(way: Way, book: &mut [u64], start: usize, q: usize, values: &[u64], from: Place)
     requires { ⌜ start + q ≤ length (now book) ⌝ }
     requires { ⌜ PlaceIn q (now values) from ⌝ }
     ensures { λ _. ⌜ now (book .exit) ≡ postFrom way (now (book .entry)) start q (now (values .entry)) from ⌝ }
@@ -28,7 +30,7 @@ pub fn post_from(way: Way, book: &mut [u64], start: usize, q: usize, values: &[u
 }
 
 // Row k of a run: the old series is taken back, and the new one posted; in one pass where there are both.
-pub fn amend_row(
+fn amend_row(
     way: Way,
     run: usize,
     k: u64,
@@ -38,7 +40,7 @@ pub fn amend_row(
     values: &[u64],
     book: &mut [u64],
 )
-    requires { ⌜ BookIn run q (now book) × (k < 81) ⌝ }
+    requires { ⌜ BookIn run q (now book) × (k < runRows) ⌝ }
     requires { ⌜ PlaceIn q (now values) old × PlaceIn q (now values) new ⌝ }
     ensures { λ _. ⌜ now (book .exit) ≡ amendRow way run q k old new (now (values .entry)) (now (book .entry)) ⌝ }
 {
@@ -54,7 +56,8 @@ pub fn amend_row(
     repost(way, book, start, q, values, from as usize, to as usize);
 }
 
-pub fn amend_side(
+// Each row of a side.
+fn amend_side(
     way: Way,
     run: usize,
     side: Side,

@@ -12,21 +12,22 @@ ghost use mathlib.Core.Path.{_≡_};
 ghost use mathlib.Core.Bool.{cond};
 ghost use Prim.Native.Nat.{_*_, _≤_};
 ghost use lib.ListN.{length, take};
+ghost use Rattle.quantity.specs.Limits.{mostQuarters};
 ghost use Rattle.model.specs.Log.{differ};
 ghost use Rattle.model.specs.Step.{placeOf, amendSides, amendBy};
 ghost use Rattle.amend.specs.Lent.{PlaceIn, BookIn, SidesIn, TurnIn};
 
 // Row i of values begins at i × Q.
 fn row_place(row: Row, q: u64) -> u64
-    requires { ⌜ q ≤ 2980 ⌝ }
+    requires { ⌜ q ≤ mostQuarters ⌝ }
     ensures { λ r. ⌜ r ≡ row .0 * q ⌝ }
 {
     (row.0 as u64) * q
 }
 
 // Where a selected version's series begins in the values.
-pub fn place_of(versions: [VersionRecord; 512], count: u64, q: u64, s: Selection) -> Place
-    requires { ⌜ (count ≤ 512) × (q ≤ 2980) ⌝ }
+fn place_of(versions: [VersionRecord; 512], count: u64, q: u64, s: Selection) -> Place
+    requires { ⌜ (count ≤ 512) × (q ≤ mostQuarters) ⌝ }
     ensures { λ r. ⌜ r ≡ placeOf q (take count versions) s ⌝ }
 {
     let Selection::Selected(r) = s else {
@@ -43,7 +44,7 @@ pub fn place_of(versions: [VersionRecord; 512], count: u64, q: u64, s: Selection
 }
 
 // One run, where its selection changes.
-pub fn amend_run(
+fn amend_run(
     run: usize,
     sides: Sides,
     q: usize,

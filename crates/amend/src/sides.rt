@@ -24,7 +24,7 @@ pub fn group_side(group: u64) -> Side
 }
 
 // An area's delta with its delta group; area 0 is T.
-pub fn delta_side(groups: [u64; 17], area: u64) -> Side
+fn delta_side(groups: [u64; 17], area: u64) -> Side
     requires { ⌜ area ≤ 255 ⌝ }
     ensures { λ r. ⌜ r ≡ deltaSide groups area ⌝ }
 {
@@ -43,7 +43,7 @@ pub fn delta_side(groups: [u64; 17], area: u64) -> Side
 }
 
 // What +v goes to.
-pub fn to_side(groups: [u64; 17], kind: u64, area: u64, partner: u64) -> Side
+fn to_side(groups: [u64; 17], kind: u64, area: u64, partner: u64) -> Side
     requires { ⌜ area ≤ 255 ⌝ }
     ensures { λ r. ⌜ r ≡ toSide groups kind area partner ⌝ }
 {
@@ -66,7 +66,7 @@ pub fn to_side(groups: [u64; 17], kind: u64, area: u64, partner: u64) -> Side
 }
 
 // What -v goes to. As a partner 0 is the outside, and not T.
-pub fn from_side(groups: [u64; 17], kind: u64, area: u64, partner: u64) -> Side
+fn from_side(groups: [u64; 17], kind: u64, area: u64, partner: u64) -> Side
     requires { ⌜ area ≤ 255 ⌝ }
     requires { ⌜ partner ≤ 255 ⌝ }
     ensures { λ r. ⌜ r ≡ fromSide groups kind area partner ⌝ }

@@ -22,7 +22,7 @@ ghost use mathlib.Core.Path.{_≡_};
 ghost use mathlib.Core.Bool.{true};
 ghost use Prim.Native.Nat.{_<_};
 ghost use lib.ListN.{set};
-ghost use Rattle.quantity.specs.Limits.{dayOk, pointOk};
+ghost use Rattle.quantity.specs.Limits.{versions, dayOk, pointOk};
 ghost use Rattle.state.specs.Change.{submittedDesk, noticedDesk};
 ghost use Rattle.state.specs.Desk.{rowsUsed, onDay, withGroups, withPoints, withUsed, withSettled, flagged};
 ghost use Rattle.state.specs.Point.{activePoint, withPoint, seriesOk};
@@ -64,15 +64,9 @@ pub fn with_point(d: Desk, point: PointNo, p: PointRecord) -> Desk
     n
 }
 
-pub fn new_version(
-    first: Day,
-    row: u64,
-    point: PointNo,
-    version: Version,
-    day: Day,
-) -> VersionRecord
+fn new_version(first: Day, row: u64, point: PointNo, version: Version, day: Day) -> VersionRecord
     requires { ⌜ pointOk (point .0) ≡ true ⌝ }
-    requires { ⌜ row < 512 ⌝ }
+    requires { ⌜ row < versions ⌝ }
     ensures { λ r. ⌜ r ≡ newVersion (first .0) row (point .0) (version .0) (day .0) ⌝ }
 {
     let status = submitted_status(first, day);
@@ -87,7 +81,7 @@ pub fn new_version(
 // A version more, at the next unused row of values.
 pub fn with_version(d: Desk, point: PointNo, version: Version, day: Day) -> Desk
     requires { ⌜ pointOk (point .0) ≡ true ⌝ }
-    requires { ⌜ d .count < 512 ⌝ }
+    requires { ⌜ d .count < versions ⌝ }
     ensures { λ r. ⌜ r ≡ submittedDesk d (newVersion (d .opening .first .0) (rowsUsed d) (point .0) (version .0) (day .0)) ⌝ }
 {
     let opening = d.opening;

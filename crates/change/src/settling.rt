@@ -34,7 +34,7 @@ pub fn no_tops() -> [u64; 256]
 }
 
 // For each point the highest version that counts in the run, 0 without one.
-pub fn tops(versions: [VersionRecord; 512], count: u64, run: u64) -> [u64; 256]
+fn tops(versions: [VersionRecord; 512], count: u64, run: u64) -> [u64; 256]
     requires { ⌜ count ≤ 512 ⌝ }
     requires { ⌜ PointsIn (take count versions) ⌝ }
     ensures { λ r. ⌜ Tops run (take count versions) r ⌝ }
@@ -62,7 +62,7 @@ pub fn settled_record(v: VersionRecord, run: u64, top: u64) -> VersionRecord
     }
 }
 
-pub fn restate(
+fn restate(
     versions: [VersionRecord; 512],
     count: u64,
     run: u64,

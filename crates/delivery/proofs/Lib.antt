@@ -1,4 +1,1 @@
-pub mod Allowed
-pub mod Checked
-pub mod Grants
-pub mod Noticing
+pub mod Submitting

@@ -1,16 +1,16 @@
 // Submit: a series goes to the next unused row of values, and counts from then on as its day says.
 use crate::Judged;
-use crate::Sizes;
-use crate::checks::log_full;
 use crate::checks::no_row;
-use crate::checks::other_lengths;
 use crate::checks::submit_ok;
 use crate::checks::too_early;
-use crate::follow::follow;
 use amend::Turn;
 use amend::copies::copy_row;
 use amend::log::due_by;
 use change::changes::with_version;
+use follow::Sizes;
+use follow::checks::log_full;
+use follow::checks::other_lengths;
+use follow::follow::follow;
 use lookup::Survey;
 use lookup::points::is_active;
 use lookup::points::state_at;
@@ -48,7 +48,8 @@ ghost use Rattle.model.specs.Step.{step, granting, refusalBy, versionBy};
 ghost use Rattle.model.specs.View.{viewOf};
 ghost use Rattle.model.specs.declared.Answer.the-variants.{Accepted};
 ghost use Rattle.verdict.specs.Stepped.{storesOf, lent, Stepped};
-ghost use Rattle.delivery.specs.Fit.{lengthsIn, SubmitTurn, submittedIn, Granted, JudgedSubmit};
+ghost use Rattle.follow.specs.Fit.{lengthsIn};
+ghost use Rattle.delivery.specs.Submit.{SubmitTurn, submittedIn, Granted, JudgedSubmit};
 
 // What a submission makes of its point's selections.
 pub fn submit_turn(first: Day, day: Day, count: u64, version: Version, s: Survey) -> Turn
@@ -67,7 +68,8 @@ pub fn submit_turn(first: Day, day: Day, count: u64, version: Version, s: Survey
     }
 }
 
-pub fn submit_checks(
+// The table's lines for a submission, in their order.
+fn submit_checks(
     d: Desk,
     s: Survey,
     due: Due,
@@ -142,7 +144,8 @@ fn store(values: &mut [u64], start: usize, q: usize, series: &[u64])
     copy_row(series, 0, q, &mut values[start..end]);
 }
 
-pub fn submit_granted(
+// The values, the version, the book and the log after a submission that is not refused.
+fn submit_granted(
     d: Desk,
     turn: Turn,
     due: Due,

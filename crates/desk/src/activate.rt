@@ -1,6 +1,4 @@
 // Activate: a point becomes active, with its kind, area and partner.
-use crate::checks::at_work;
-use crate::checks::refuse;
 use change::changes::active_record;
 use change::changes::on_day;
 use change::changes::with_point;
@@ -18,6 +16,8 @@ use quantity::limits::point_ok;
 use state::Desk;
 use verdict::Look;
 use verdict::Outcome;
+use verdict::checks::at_work;
+use verdict::checks::refuse;
 use verdict::desks::look;
 use verdict::rules::or_if;
 ghost use mathlib.Core.Path.{_≡_};
@@ -30,7 +30,7 @@ ghost use Rattle.model.specs.Step.{refusalBy, step};
 ghost use Rattle.verdict.specs.Look.{Looked};
 ghost use Rattle.verdict.specs.Stepped.{Answered, lent};
 
-pub fn activate_verdict(
+fn activate_verdict(
     d: Desk,
     l: Look,
     point: PointNo,
@@ -53,7 +53,7 @@ pub fn activate_verdict(
     or_if(v4, l.taken, Cause::SameSeries)
 }
 
-pub fn activated(d: Desk, point: PointNo, kind: u64, area: u64, partner: u64, day: Day) -> Desk
+fn activated(d: Desk, point: PointNo, kind: u64, area: u64, partner: u64, day: Day) -> Desk
     requires { ⌜ seriesOk kind area partner ≡ true ⌝ }
     requires { ⌜ dayOk (day .0) ≡ true ⌝ }
     ensures { λ r. ⌜ r ≡ onDay (withPoints d (withPoint (d .points) (point .0) (activePoint kind area partner (day .0)))) (day .0) ⌝ }

@@ -1,6 +1,4 @@
 // Deactivate: a point without a version becomes free.
-use crate::checks::at_work;
-use crate::checks::refuse;
 use change::changes::on_day;
 use change::changes::with_point;
 use lookup::points::is_active;
@@ -19,6 +17,8 @@ use state::PointState;
 use state::selections::is_selected;
 use verdict::Look;
 use verdict::Outcome;
+use verdict::checks::at_work;
+use verdict::checks::refuse;
 use verdict::desks::look;
 use verdict::rules::or_if;
 ghost use mathlib.Core.Path.{_≡_};
@@ -29,7 +29,7 @@ ghost use Rattle.model.specs.Step.{refusalBy, step};
 ghost use Rattle.verdict.specs.Look.{Looked};
 ghost use Rattle.verdict.specs.Stepped.{Answered, lent};
 
-pub fn deactivate_verdict(d: Desk, l: Look, point: PointNo, day: Day) -> Verdict
+fn deactivate_verdict(d: Desk, l: Look, point: PointNo, day: Day) -> Verdict
     requires { ⌜ Looked d (point .0) 0 0 0 0 l ⌝ }
     ensures { λ r. ⌜ ((n : Lengths) → r ≡ refusalBy d (telling n (deactivates (point .0) (day .0)))) ⌝ }
 {

@@ -1,6 +1,5 @@
 // The calls open, activate, deactivate and status. The state goes in by value and comes back.
 pub mod activate;
-pub mod checks;
 pub mod deactivate;
 pub mod open;
 pub mod status;

@@ -1,5 +1,4 @@
 // Open: the state is made anew, whatever the old one held, and the book is all 0.
-use crate::checks::refuse;
 use lookup::limits::groups_ok;
 use lookup::limits::opening_ok;
 use model::Answer;
@@ -10,6 +9,7 @@ use state::Desk;
 use state::Opening;
 use state::fresh::opened;
 use verdict::Outcome;
+use verdict::checks::refuse;
 use verdict::desks::is_open;
 use verdict::rules::or_if;
 ghost use mathlib.Core.Path.{_≡_};
@@ -17,7 +17,7 @@ ghost use lib.ListN.{length, replicate};
 ghost use Rattle.model.specs.Call.{opens, telling};
 ghost use Rattle.model.specs.Step.{refusalBy, step};
 ghost use Rattle.verdict.specs.Stepped.{Stepped, storesOf, lent};
-ghost use Rattle.desk.specs.Lent.{sizes};
+ghost use Rattle.verdict.specs.Lent.{sizes};
 
 // It checks 6, then 4, and never cause 1.
 pub fn open_verdict(d: Desk, o: Opening, groups: [u64; 17]) -> Verdict

@@ -1,6 +1,4 @@
 // Status: that of a version of an active point. The desk stays as it is.
-use crate::checks::at_work;
-use crate::checks::refuse;
 use lookup::points::is_active;
 use lookup::points::state_at;
 use model::Answer;
@@ -14,6 +12,8 @@ use state::Desk;
 use state::Held;
 use verdict::Look;
 use verdict::Outcome;
+use verdict::checks::at_work;
+use verdict::checks::refuse;
 use verdict::desks::absent;
 use verdict::desks::look;
 use verdict::rules::or_if;
@@ -23,7 +23,7 @@ ghost use Rattle.model.specs.Step.{statusAnswer, refusalBy, step};
 ghost use Rattle.verdict.specs.Look.{Looked};
 ghost use Rattle.verdict.specs.Stepped.{Answered, lent};
 
-pub fn status_verdict(d: Desk, l: Look, point: PointNo, version: Version) -> Verdict
+fn status_verdict(d: Desk, l: Look, point: PointNo, version: Version) -> Verdict
     requires { ⌜ Looked d (point .0) (version .0) 0 0 0 l ⌝ }
     ensures { λ r. ⌜ ((n : Lengths) → r ≡ refusalBy d (telling n (asks (point .0) (version .0)))) ⌝ }
 {

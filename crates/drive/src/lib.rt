@@ -1,5 +1,7 @@
-// For tests and benchmarks only: one call read and one call written, as numbers in slices; and the row adder.
+// For tests and benchmarks only: one call read and one call written, as numbers in slices; the row adder; a script of the nine calls.
+mod damage;
 mod row;
+mod script;
 
 use message::cause;
 use reader::Step;

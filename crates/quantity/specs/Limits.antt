@@ -44,6 +44,10 @@ bookRows = runs * runRows
 abbrev pub mostEnergy : ℕ
 mostEnergy = 10 ^ 12
 
+-- "Day: working-day number 0 to 400"
+abbrev pub lastDay : ℕ
+lastDay = 400
+
 -- from low to high, both included
 abbrev pub within : (low high n : ℕ) → Bool
 within low high n = leb low n && leb n high
@@ -52,9 +56,9 @@ within low high n = leb low n && leb n high
 abbrev pub quartersOk : (quarters : ℕ) → Bool
 quartersOk q = within 1 mostQuarters q
 
--- "Day: working-day number 0 to 400, counted from the end of the month."
+-- a day: "working-day number 0 to 400, counted from the end of the month"
 abbrev pub dayOk : (day : ℕ) → Bool
-dayOk d = leb d 400
+dayOk d = leb d lastDay
 
 -- "Deadlines F (first delivery), C (clearing), K (correction), with 1 ≤ F < C < K ≤ 399."
 abbrev pub deadlinesOk : (first clearing correction : ℕ) → Bool

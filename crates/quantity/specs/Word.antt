@@ -13,9 +13,10 @@ word (negsuc n) = 2 ^ 64 - suc (n % 2 ^ 64)
 abbrev pub signed : ℕ → ℤ
 signed w = toZ w64 w
 
--- "sums wrap at 64 bits": the sum and the difference of two words
+-- "sums wrap at 64 bits": the sum of two words
 abbrev pub plus : ℕ → ℕ → ℕ
 plus a b = (a + b) % 2 ^ 64
 
+-- "sums wrap at 64 bits": the difference of two words
 abbrev pub minus : ℕ → ℕ → ℕ
 minus a b = (a + (2 ^ 64 - b)) % 2 ^ 64

@@ -23,7 +23,7 @@ use Rattle.model.specs.declared.Cause.the-variants.{NotOpen, WrongLength, BadFi
 use Rattle.model.specs.declared.Verdict.{Verdict}
 use Rattle.model.specs.declared.Verdict.the-variants.{Fine, Refuse}
 use Rattle.verdict.specs.Stepped.{lent}
-use Rattle.desk.proofs.Rules.{allowed, book-same, refused, granted}
+use Rattle.verdict.proofs.Deciding.{allowed, book-same, refused, granted}
 
 -- the q numbers from a row's start on are its part
 pub row-part : (book : List ℕ) (q run g start : ℕ) → start ≡ rowStart q run (groupRow g) → take ((start + q) - start) (drop start book) ≡ part book (rowStart q run (groupRow g)) q

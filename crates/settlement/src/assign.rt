@@ -2,8 +2,6 @@
 use amend::delta::move_delta;
 use change::changes::on_day;
 use change::changes::with_group;
-use desk::checks::at_work;
-use desk::checks::refuse;
 use lookup::limits::valid;
 use model::Answer;
 use model::Cause;
@@ -14,6 +12,8 @@ use quantity::limits::delta_ok;
 use quantity::limits::group_ok;
 use state::Desk;
 use verdict::Outcome;
+use verdict::checks::at_work;
+use verdict::checks::refuse;
 use verdict::rules::or_if;
 ghost use Prim.Native.Nat.{ℕ};
 ghost use mathlib.Core.Path.{_≡_};
@@ -26,7 +26,7 @@ ghost use Rattle.model.specs.Call.{assigns, telling};
 ghost use Rattle.model.specs.Step.{refusalBy, granting, step};
 ghost use Rattle.model.specs.declared.Answer.the-variants.{Accepted};
 ghost use Rattle.verdict.specs.Stepped.{BookStepped, storesOf, lent};
-ghost use Rattle.desk.specs.Lent.{sizes};
+ghost use Rattle.verdict.specs.Lent.{sizes};
 
 pub fn assign_verdict(d: Desk, size: u64, area: u64, group: u64, day: Day) -> Verdict
     ensures { λ r. ⌜ ((values log : ℕ) → r ≡ refusalBy d (telling (sizes values size log) (assigns area group (day .0)))) ⌝ }
@@ -40,7 +40,7 @@ pub fn assign_verdict(d: Desk, size: u64, area: u64, group: u64, day: Day) -> Ve
     or_if(v3, opening.clearing.0 < day.0, Cause::AfterClearing)
 }
 
-pub fn assigned(d: Desk, area: u64, group: u64, day: Day, book: &mut [u64]) -> Desk
+fn assigned(d: Desk, area: u64, group: u64, day: Day, book: &mut [u64]) -> Desk
     requires { ⌜ Sound d ⌝ }
     requires { ⌜ (deltaOk area ≡ true) × (groupOk group ≡ true) ⌝ }
     requires { ⌜ length (now book) ≡ d .opening .book ⌝ }

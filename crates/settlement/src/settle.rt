@@ -2,8 +2,6 @@
 use change::changes::on_day;
 use change::changes::with_settled;
 use change::settling::with_run_settled;
-use desk::checks::at_work;
-use desk::checks::refuse;
 use lookup::limits::valid;
 use model::Answer;
 use model::Cause;
@@ -15,6 +13,8 @@ use state::Desk;
 use state::Opening;
 use state::Runs;
 use verdict::Outcome;
+use verdict::checks::at_work;
+use verdict::checks::refuse;
 use verdict::rules::or_if;
 ghost use mathlib.Core.Path.{_≡_};
 ghost use mathlib.Core.Bool.{true};
@@ -60,7 +60,7 @@ pub fn settle_verdict(d: Desk, run: u64, day: Day) -> Verdict
     or_if(v4, (run == 2) & !settled.first, Cause::FirstRunOpen)
 }
 
-pub fn settled(d: Desk, run: u64, day: Day) -> Desk
+fn settled(d: Desk, run: u64, day: Day) -> Desk
     requires { ⌜ validDesk d ≡ true ⌝ }
     ensures { λ r. ⌜ r ≡ onDay (withSettled (settledDesk d run) (flagged run (d .settled))) (day .0) ⌝ }
 {

@@ -1,6 +1,5 @@
 // Show: a group's row of a run, itself a part of the lent book. Its number and its part are two entries over the same input.
 use book::place::row_start;
-use desk::checks::at_work;
 use lookup::limits::valid;
 use model::Answer;
 use model::Cause;
@@ -8,6 +7,7 @@ use model::Verdict;
 use quantity::limits::group_ok;
 use quantity::limits::run_ok;
 use state::Desk;
+use verdict::checks::at_work;
 use verdict::rules::or_if;
 ghost use Prim.Native.Nat.{ℕ};
 ghost use mathlib.Core.Path.{_≡_};
@@ -15,7 +15,7 @@ ghost use mathlib.Core.List.{List};
 ghost use Rattle.model.specs.Call.{shows, telling};
 ghost use Rattle.model.specs.Step.{refusalBy, step};
 ghost use Rattle.verdict.specs.Stepped.{storesOf, lent};
-ghost use Rattle.desk.specs.Lent.{sizes};
+ghost use Rattle.verdict.specs.Lent.{sizes};
 
 pub fn show_verdict(d: Desk, size: u64, run: u64, group: u64) -> Verdict
     ensures { λ r. ⌜ ((values log : ℕ) → r ≡ refusalBy d (telling (sizes values size log) (shows run group))) ⌝ }

@@ -4,7 +4,7 @@ use Prim.Native.Nat.{ℕ, _*_, _%_, _≤_}
 use mathlib.Core.Path.{_≡_}
 use mathlib.Core.Bool.{Bool, true, _&&_}
 use lib.Dec.{leb, ltb, eqb}
-use Rattle.quantity.specs.Limits.{mostQuarters, bookRows, versions, quartersOk, dayOk, deadlinesOk, versionOk, pointOk, groupOk}
+use Rattle.quantity.specs.Limits.{mostQuarters, areas, groups as groupCount, lastDay, bookRows, versions, quartersOk, dayOk, deadlinesOk, versionOk, pointOk, groupOk}
 use Rattle.quantity.specs.Lists.{all}
 use Rattle.state.specs.Desk.{rowsIn, logRowsIn, versionsIn, rowsUsed}
 use Rattle.state.specs.Point.{seriesOk}
@@ -54,8 +54,8 @@ validDesk d =
 -- what a line of the table of series gives
 pub record SeriesIn (k a b : ℕ) : Type 0 where
   pub kind : k ≤ 5
-  pub area : a ≤ 16
-  pub partner : b ≤ 64
+  pub area : a ≤ areas
+  pub partner : b ≤ groupCount
 
 -- what a valid desk gives
 pub record Sound (d : Desk) : Type 0 where
@@ -64,7 +64,7 @@ pub record Sound (d : Desk) : Type 0 where
   pub deadlines : deadlinesOk (d .opening .first .0) (d .opening .clearing .0) (d .opening .correction .0) ≡ true
   pub book : d .opening .book ≡ bookRows * d .opening .quarters
   pub log : d .opening .log % 4 ≡ 0
-  pub day : d .day .0 ≤ 400
+  pub day : d .day .0 ≤ lastDay
   pub groups : all groupOk (d .groups) ≡ true
   pub count : d .count ≤ versions
   pub rows : rowsUsed d * d .opening .quarters ≤ d .opening .values

@@ -1,5 +1,7 @@
 // What every call begins with: one look at the desk, and the table of causes, check by check.
+pub mod checks;
 pub mod desks;
+pub mod numbers;
 pub mod rules;
 
 use lookup::Survey;

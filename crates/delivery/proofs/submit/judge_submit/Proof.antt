@@ -8,8 +8,10 @@ use Rattle.state.specs.Valid.{validDesk}
 use Rattle.state.proofs.Bounds.{sound}
 use Rattle.model.specs.Causes.{firstOf, orIf}
 use Rattle.model.specs.Step.{refusalBy}
-use Rattle.delivery.specs.Fit.{Turned, submittedIn}
-use Rattle.delivery.proofs.Grants.{length-held, turned-submit, turned-due}
+use Rattle.follow.specs.Fit.{Turned}
+use Rattle.delivery.specs.Submit.{submittedIn}
+use Rattle.follow.proofs.Turns.{length-held, turned-due}
+use Rattle.delivery.proofs.Submitting.{turned-submit}
 use borrow.Author.Needs.{needs}
 use Rattle.delivery.proofs.submit.judge_submit.Statement.{statement}
 use Rattle.delivery.proofs.submit.judge_submit.Tie as tie

@@ -3,7 +3,7 @@ use mathlib.Core.Path.{_≡_, _∙_}
 use lib.ListN.{length}
 use Rattle.book.specs.Row.{part}
 use Rattle.book.proofs.Rows.{lent, back, length-part}
-use Rattle.delivery.proofs.Grants.{filled}
+use Rattle.delivery.proofs.Submitting.{filled}
 use borrow.Author.Needs.{needs}
 use Rattle.delivery.proofs.submit.store.Statement.{statement}
 use Rattle.delivery.proofs.submit.store.Tie as tie

@@ -1,7 +1,7 @@
 -- `submit` meets its contract. Assumes nothing.
 use mathlib.Core.Path.{refl, sym, _∙_}
 use Rattle.model.specs.Step.{step, decided}
-use Rattle.delivery.proofs.Allowed.{submit-allowed}
+use Rattle.delivery.proofs.Submitting.{submit-allowed}
 use borrow.Author.Needs.{needs}
 use Rattle.delivery.proofs.submit.submit.Statement.{statement}
 use Rattle.delivery.proofs.submit.submit.Tie as tie

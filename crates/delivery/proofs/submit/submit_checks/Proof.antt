@@ -13,7 +13,7 @@ use Rattle.state.specs.Selection.{versionOf}
 use Rattle.state.specs.declared.PointState.{PointState}
 use Rattle.model.specs.Causes.{firstOf, isAbsent, logFull}
 use Rattle.model.specs.declared.Cause.the-variants.{NotOpen, WrongLength, BadField, PastDay, AfterCorrection, NotActive, TooEarly, VersionPresent, VersionBelow, NoRow, NoLogRow}
-use Rattle.delivery.proofs.Checked.{checked}
+use Rattle.verdict.proofs.Deciding.{checked}
 use borrow.Author.Needs.{needs}
 use Rattle.delivery.proofs.submit.submit_checks.Statement.{statement}
 use Rattle.delivery.proofs.submit.submit_checks.Tie as tie

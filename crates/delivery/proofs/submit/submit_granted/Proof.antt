@@ -10,8 +10,9 @@ use Rattle.state.specs.Desk.{rowsIn}
 use Rattle.state.proofs.Bounds.{rows-fit, fit-rows}
 use Rattle.state.proofs.Kept.{submitted-versions}
 use Rattle.model.specs.Step.{versionBy, amended}
-use Rattle.delivery.specs.Fit.{submittedIn}
-use Rattle.delivery.proofs.Grants.{turn-in, submitted-ok, words-signed}
+use Rattle.delivery.specs.Submit.{submittedIn}
+use Rattle.follow.proofs.Turns.{turn-in}
+use Rattle.delivery.proofs.Submitting.{submitted-ok, words-signed}
 use borrow.Author.Needs.{needs}
 use Rattle.delivery.proofs.submit.submit_granted.Statement.{statement}
 use Rattle.delivery.proofs.submit.submit_granted.Tie as tie

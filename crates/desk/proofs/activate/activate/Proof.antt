@@ -4,7 +4,7 @@ use borrow.Author.Tests.{not-false}
 use Rattle.quantity.specs.Limits.{pointOk, dayOk}
 use Rattle.quantity.proofs.Tests.{and-left, and-right}
 use Rattle.model.specs.Call.{lengthsOf}
-use Rattle.desk.proofs.Rules.{allowed, noLengths, answer-refused, answer-granted}
+use Rattle.verdict.proofs.Deciding.{allowed, noLengths, answer-refused, answer-granted}
 use borrow.Author.Needs.{needs}
 use Rattle.desk.proofs.activate.activate.Statement.{statement}
 use Rattle.desk.proofs.activate.activate.Tie as tie

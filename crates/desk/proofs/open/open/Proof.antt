@@ -3,7 +3,7 @@ use mathlib.Core.Path.{refl, sym, ap, _∙_}
 use Prim.Native.Nat.{ℕ}
 use borrow.Author.Tests.{not-false}
 use lib.ListN.{replicate}
-use Rattle.desk.proofs.Rules.{allowed, opens-book, all-refused, all-granted}
+use Rattle.verdict.proofs.Deciding.{allowed, opens-book, all-refused, all-granted}
 use borrow.Author.Needs.{needs}
 use Rattle.desk.proofs.open.open.Statement.{statement}
 use Rattle.desk.proofs.open.open.Tie as tie

@@ -5,7 +5,7 @@ use Rattle.quantity.specs.Lists.{fold}
 use Rattle.quantity.proofs.Lists.{length-of}
 use Rattle.model.specs.Causes.{firstOf, opensOk}
 use Rattle.model.specs.Step.{refusalBy}
-use Rattle.desk.proofs.Rules.{checked, unasked}
+use Rattle.verdict.proofs.Deciding.{checked, unasked}
 use borrow.Author.Needs.{needs}
 use Rattle.desk.proofs.open.open_verdict.Statement.{statement}
 use Rattle.desk.proofs.open.open_verdict.Tie as tie

@@ -2,7 +2,7 @@
 use Rattle.quantity.specs.Lists.{fold}
 use Rattle.model.specs.Causes.{firstOf}
 use Rattle.model.specs.Step.{refusalBy}
-use Rattle.desk.proofs.Rules.{checked, begun}
+use Rattle.verdict.proofs.Deciding.{checked, begun}
 use Rattle.desk.proofs.status.status_verdict.Statement.{statement}
 use Rattle.desk.proofs.status.status_verdict.Tie as tie
 

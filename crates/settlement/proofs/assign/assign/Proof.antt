@@ -5,7 +5,7 @@ use lib.ListN.{length}
 use Rattle.quantity.specs.Limits.{deltaOk, groupOk}
 use Rattle.quantity.proofs.Tests.{and-left, and-right}
 use Rattle.state.proofs.Bounds.{sound}
-use Rattle.desk.proofs.Rules.{allowed, book-same, book-refused, book-granted}
+use Rattle.verdict.proofs.Deciding.{allowed, book-same, book-refused, book-granted}
 use borrow.Author.Needs.{needs}
 use Rattle.settlement.proofs.assign.assign.Statement.{statement}
 use Rattle.settlement.proofs.assign.assign.Tie as tie

@@ -3,7 +3,7 @@ use mathlib.Core.Path.{refl}
 use Rattle.quantity.specs.Lists.{fold}
 use Rattle.model.specs.Causes.{firstOf}
 use Rattle.model.specs.Step.{refusalBy}
-use Rattle.desk.proofs.Rules.{checked, begun, book-other}
+use Rattle.verdict.proofs.Deciding.{checked, begun, book-other}
 use Rattle.settlement.proofs.assign.assign_verdict.Statement.{statement}
 use Rattle.settlement.proofs.assign.assign_verdict.Tie as tie
 

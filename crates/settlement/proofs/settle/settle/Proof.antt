@@ -1,7 +1,7 @@
 -- `settle` meets its contract. Assumes nothing.
 use mathlib.Core.Path.{refl, sym, _∙_}
 use Rattle.model.specs.Call.{lengthsOf}
-use Rattle.desk.proofs.Rules.{allowed, noLengths, answer-refused, answer-granted}
+use Rattle.verdict.proofs.Deciding.{allowed, noLengths, answer-refused, answer-granted}
 use borrow.Author.Tests.{not-false}
 use borrow.Author.Needs.{needs}
 use Rattle.settlement.proofs.settle.settle.Statement.{statement}

@@ -2,7 +2,7 @@
 use mathlib.Core.Path.{sym, ap}
 use lib.ListN.{length}
 use Rattle.model.specs.Step.{Outcome}
-use Rattle.desk.proofs.Rules.{refused, granted}
+use Rattle.verdict.proofs.Deciding.{refused, granted}
 use borrow.Author.Needs.{needs}
 use Rattle.settlement.proofs.show.show_number.Statement.{statement}
 use Rattle.settlement.proofs.show.show_number.Tie as tie

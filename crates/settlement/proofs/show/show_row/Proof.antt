@@ -1,5 +1,5 @@
 -- `show_row` meets its contract. Assumes nothing.
-use Rattle.desk.specs.Lent.{sizes}
+use Rattle.verdict.specs.Lent.{sizes}
 -- `show_row` meets its contract. Assumes nothing.
 use mathlib.Core.Path.{sym, ap, _∙_}
 use Prim.Native.Nat.{_+_, _≤_}
@@ -7,7 +7,7 @@ use native.Mathlib.Omega.{arith}
 use lib.ListN.{length}
 use Rattle.state.proofs.Bounds.{sound}
 use Rattle.model.specs.Step.{Outcome}
-use Rattle.desk.proofs.Rules.{refused, granted}
+use Rattle.verdict.proofs.Deciding.{refused, granted}
 use Rattle.settlement.proofs.Parts.{Showable, showable, row-ends, row-part}
 use borrow.Author.Needs.{needs}
 use Rattle.settlement.proofs.show.show_row.Statement.{statement}

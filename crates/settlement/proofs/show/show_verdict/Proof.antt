@@ -2,7 +2,7 @@
 use Rattle.quantity.specs.Lists.{fold}
 use Rattle.model.specs.Causes.{firstOf}
 use Rattle.model.specs.Step.{refusalBy}
-use Rattle.desk.proofs.Rules.{checked, begun, book-other}
+use Rattle.verdict.proofs.Deciding.{checked, begun, book-other}
 use Rattle.settlement.proofs.show.show_verdict.Statement.{statement}
 use Rattle.settlement.proofs.show.show_verdict.Tie as tie
 

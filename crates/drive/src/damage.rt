@@ -1,0 +1,119 @@
+// A desk with one field overwritten, as no call would do it: so that cause 1 can be tried field by field.
+use quantity::Day;
+use quantity::Version;
+use state::Area;
+use state::Desk;
+use state::Kind;
+use state::Partner;
+use state::PointRecord;
+use state::PointState;
+use state::Row;
+use state::ShortDay;
+use state::ShortPoint;
+use state::Status;
+use state::VersionRecord;
+
+// A field that the opening fixed.
+fn with_opening(d: Desk, which: u64, a: u64) -> Desk {
+    let mut o = d.opening;
+    let day = Day(a);
+    match which {
+        1 => o.quarters = a,
+        2 => o.first = day,
+        3 => o.clearing = day,
+        4 => o.correction = day,
+        5 => o.values = a,
+        6 => o.book = a,
+        7 => o.log = a,
+        _ => {}
+    }
+    let mut r = d;
+    r.opening = o;
+    r
+}
+
+// The day, a count or a flag.
+fn with_count(d: Desk, which: u64, a: u64) -> Desk {
+    let mut r = d;
+    let day = Day(a);
+    let mut runs = d.settled;
+    match which {
+        8 => r.day = day,
+        10 => r.count = a,
+        11 => r.used = a,
+        12 => runs.first = a != 0,
+        13 => runs.second = a != 0,
+        _ => {}
+    }
+    r.settled = runs;
+    r
+}
+
+// A delta group.
+fn with_group(d: Desk, place: u64, a: u64) -> Desk {
+    let mut r = d;
+    if place < 17 {
+        let i = place as usize;
+        r.groups[i] = a;
+    }
+    r
+}
+
+// A point.
+fn with_point(d: Desk, place: u64, state: PointState) -> Desk {
+    let mut r = d;
+    if place < 256 {
+        let i = place as usize;
+        let p = PointRecord { state };
+        r.points[i] = p;
+    }
+    r
+}
+
+fn status_of(number: u64) -> Status {
+    match number {
+        2 => Status::Settlement,
+        3 => Status::Settled,
+        4 => Status::Correction,
+        5 => Status::CorrectionSettled,
+        _ => Status::Check,
+    }
+}
+
+// A version.
+fn with_version(d: Desk, place: u64, version: u64, point: u64, row: u64, status: u64) -> Desk {
+    let mut r = d;
+    if place < 512 {
+        let i = place as usize;
+        let v = VersionRecord {
+            version: Version(version),
+            point: ShortPoint((point % 65536) as u16),
+            row: Row((row % 65536) as u16),
+            status: status_of(status),
+        };
+        r.versions[i] = v;
+    }
+    r
+}
+
+// The field by its number; another number changes nothing.
+pub fn damaged(d: Desk, which: u64, place: u64, a: u64, b: u64, c: u64, e: u64) -> Desk {
+    if which < 8 {
+        return with_opening(d, which, a);
+    }
+    match which {
+        9 => with_group(d, place, a),
+        14 => with_point(d, place, PointState::Free),
+        15 => {
+            let active = PointState::Active {
+                since: ShortDay((a % 65536) as u16),
+                kind: Kind((b % 256) as u8),
+                area: Area((c % 256) as u8),
+                partner: Partner((e % 256) as u8),
+            };
+            with_point(d, place, active)
+        }
+        16 => with_version(d, place, a, b, c, e),
+        _ => with_count(d, which, a),
+    }
+}
