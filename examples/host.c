@@ -15,45 +15,9 @@
 #include <string.h>
 
 #include "emorizugu.h"
+#include "files.h"
 
 enum { READ = 0, REFUSED = 1, UNREADABLE = 2 };
-
-/* A file's bytes; `bytes` is never NULL once the file is read. */
-struct file {
-    uint8_t *bytes;
-    size_t length;
-};
-
-/* Reads the rest of a stream to memory that grows with it. 0, or the number of the error. */
-static int read_stream(FILE *stream, struct file *file) {
-    size_t room = 0;
-    do {
-        uint8_t *grown;
-        room = room == 0 ? 4096 : 2 * room;
-        grown = realloc(file->bytes, room);
-        if (grown == NULL)
-            return ENOMEM;
-        file->bytes = grown;
-        file->length += fread(file->bytes + file->length, 1, room - file->length, stream);
-    } while (file->length == room);
-    if (!ferror(stream))
-        return 0;
-    return errno != 0 ? errno : EIO;
-}
-
-/* Reads a whole file; says what is wrong where it cannot. The caller frees the bytes, also then. */
-static int read_file(const char *name, struct file *file) {
-    FILE *stream = fopen(name, "rb");
-    int error;
-    file->bytes = NULL;
-    file->length = 0;
-    error = stream == NULL ? errno : read_stream(stream, file);
-    if (stream != NULL)
-        fclose(stream);
-    if (error != 0)
-        fprintf(stderr, "host: %s: %s\n", name, strerror(error));
-    return error == 0;
-}
 
 /* Reads a decimal number of digits alone; says what is wrong where it is none or has more than 64 bits. */
 static int read_number(const char *word, const char *what, uint64_t *number) {
@@ -156,8 +120,8 @@ int main(int argc, char **argv) {
         return UNREADABLE;
     }
     if (read_number(argv[3], "QUARTERS", &quarters) && read_number(argv[4], "RUN", &run)
-        && read_number(argv[5], "GROUP", &group) && read_file(argv[1], &message) && read_file(argv[2], &book)
-        && has_month(argv[2], &book, quarters, run, group)) {
+        && read_number(argv[5], "GROUP", &group) && read_file("host", argv[1], &message)
+        && read_file("host", argv[2], &book) && has_month(argv[2], &book, quarters, run, group)) {
         status = print_verdict(argv[1], &message);
         print_month(&book, quarters, run, group);
     }

@@ -40,6 +40,18 @@ extern "C" {
         out: *mut u64,
         out_len: usize,
     ) -> u64;
+    fn drive_script(
+        script: *const u64,
+        script_len: usize,
+        values: *mut u64,
+        values_len: usize,
+        book: *mut u64,
+        book_len: usize,
+        log: *mut u64,
+        log_len: usize,
+        out: *mut u64,
+        out_len: usize,
+    ) -> u64;
 }
 
 /// `emorizugu_file_refusal`.
@@ -88,6 +100,30 @@ pub fn write(kind: u64, fields: &[u64], series: &[u64], output: &mut [u8], out: 
             series.len(),
             output.as_mut_ptr(),
             output.len(),
+            out.as_mut_ptr(),
+            out.len(),
+        )
+    }
+}
+
+/// `drive_script`.
+pub fn script(
+    script: &[u64],
+    values: &mut [u64],
+    book: &mut [u64],
+    log: &mut [u64],
+    out: &mut [u64],
+) -> u64 {
+    unsafe {
+        drive_script(
+            script.as_ptr(),
+            script.len(),
+            values.as_mut_ptr(),
+            values.len(),
+            book.as_mut_ptr(),
+            book.len(),
+            log.as_mut_ptr(),
+            log.len(),
             out.as_mut_ptr(),
             out.len(),
         )

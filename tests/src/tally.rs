@@ -28,16 +28,21 @@ impl Tally {
         let mut names: Vec<&str> = self.0.keys().map(|(what, _)| *what).collect();
         names.dedup();
         for what in names {
-            let answers = self.0.iter().filter(|((name, _), _)| *name == what);
-            let counts: Vec<String> = answers
-                .map(|((_, answer), count)| format!("{answer}: {count}"))
-                .collect();
-            println!(
-                "{what:34} {:>8} compared  {}",
-                self.all(what),
-                counts.join("  ")
-            );
+            self.print_one(what);
         }
+    }
+
+    /// Prints the line of one thing compared.
+    pub fn print_one(&self, what: &str) {
+        let answers = self.0.iter().filter(|((name, _), _)| *name == what);
+        let counts: Vec<String> = answers
+            .map(|((_, answer), count)| format!("{answer}: {count}"))
+            .collect();
+        println!(
+            "{what:34} {:>8} compared  {}",
+            self.all(what),
+            counts.join("  ")
+        );
     }
 
     /// Demands that `what` had each of these answers at least `least` times, and no others.

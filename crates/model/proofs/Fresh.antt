@@ -42,7 +42,7 @@ zero-word = refl
 
 -- "Book all 0; all points free, no versions, no log rows used; values and log untouched."
 module _ (q f c k : ℕ) (gs : List ℕ) (st : Stores) (ok : opensOk (openingBy q f c k (lengthsOf st)) gs ≡ true) where
-  opened-holds : Holds (openDesk (openingBy q f c k (lengthsOf st)) gs) (withBook st (replicate (bookRows * q) 0)) (record { call = opens q f c k gs; lengths = lengthsOf st } ∷ [])
+  pub opened-holds : Holds (openDesk (openingBy q f c k (lengthsOf st)) gs) (withBook st (replicate (bookRows * q) 0)) (record { call = opens q f c k gs; lengths = lengthsOf st } ∷ [])
   unfolding opensOk all viewIn openingOf dayOf pointsOf groupsOf versionsOf energiesOf logOf settledOf logNumbers
   opened-holds =
       let o = openingBy q f c k (lengthsOf st) in

@@ -23,7 +23,8 @@ use Rattle.model.proofs.Rules.{passed}
 use Rattle.model.proofs.Submit.{submit-granted}
 use Rattle.state.specs.declared.Desk.{Desk}
 
-every : (c : Call) → Granted c
+-- every call, accepted
+pub every : (c : Call) → Granted c
 every (opens q f c k gs) = open-granted q f c k gs
 every (activates p k a b d) = activate-granted p k a b d
 every (deactivates p d) = deactivate-granted p d
@@ -34,7 +35,8 @@ every (shows r g) = show-granted r g
 every (asks p x) = status-granted p x
 every (settles r d) = settle-granted r d
 
-fine : (d : Desk) (s : Stores) (h : List Told) (l : Lent) → Holds d s h → refusal (viewIn h) (told l) ≡ Fine → Passed (rules (viewOf d) (lengthsOf (l .stores)) (l .call))
+-- what the plain desk does not refuse has passed every rule
+pub fine : (d : Desk) (s : Stores) (h : List Told) (l : Lent) → Holds d s h → refusal (viewIn h) (told l) ≡ Fine → Passed (rules (viewOf d) (lengthsOf (l .stores)) (l .call))
 unfolding refusal
 fine d s h l H e = passed (rules (viewOf d) (lengthsOf (l .stores)) (l .call)) (rw (H .view) e)
 

@@ -70,7 +70,8 @@ module _ (p x e : ℕ) (es : List ℤ) (d : Desk) (s : Stores) (h : List Told) (
   rest : (dayOk e && (eqb (length es) (d .opening .quarters) && all energyOk es)) ≡ true
   rest = and-right (versionOk x) _ (and-right (pointOk p) _ fields)
 
-  full : length es ≡ d .opening .quarters
+  -- a series of Q energies
+  pub full : length es ≡ d .opening .quarters
   full = eqb-true (length es) (d .opening .quarters) (and-left (eqb (length es) (d .opening .quarters)) _ (and-right (dayOk e) _ rest))
 
   free : (leb versions (length (versionsIn d)) || ltb (d .opening .values) ((length (versionsIn d) + 1) * d .opening .quarters)) ≡ false

@@ -28,9 +28,10 @@ pub beyond : (s : List ℕ) (at room : ℕ) → length s < at → readAt s at ro
 unfolding readAt
 beyond s at room h = rw (ne-eqb at (length s) (λ e. omega arith), drop-of-length-le s {i = at} (omega arith), decode-none)
 
--- what a step of the reader says of the file's calls
+-- what a step of the reader says of the file's calls: the call that is parsed, and those behind it
 pub record Stepped (s : List ℕ) (at room k n m : ℕ) (fields : List ℕ) : Type 0 where
   pub call : Sent
+  pub parsed : parse room (drop at s) ≡ got call (drop m s)
   pub calls : callsIn room (drop at s) ≡ before call (callsIn room (drop m s))
   pub kind : k ≡ call .kind
   pub count : n ≡ length (call .energies)
@@ -65,9 +66,11 @@ module _ (s : List ℕ) (at room : ℕ) where
           let w = parse-read room (drop at s) p .behind in
           let v = next-of 3 s at (omega (arith, w .some, w .inside, length-drop at s)) w in
           let next : length s - length r ≡ m = cc in
+          let parsed = p ∙ ap (got c) (v .there ∙ ap (λ (i : ℕ). drop i s) next) in
           record {
             call = c;
-            calls = calls-next room (drop at s) p ∙ ap (λ (x : List ℕ). before c (callsIn room x)) (v .there ∙ ap (λ (i : ℕ). drop i s) next);
+            parsed = parsed;
+            calls = calls-next room (drop at s) parsed;
             kind = cc;
             count = cc;
             padding = refl;
@@ -76,8 +79,8 @@ module _ (s : List ℕ) (at room : ℕ) where
           }
       go ne (refused x) p q = absurd (let z : _≡_ {A = ℕ} 0 1 = cc in omega arith)
 
-  pub reader-refused : {x : FileCause} {o : ℕ} → at < length s → readAt s at room .step ≡ NoCall x o → (callsIn room (drop at s) ≡ stop (drop at s) x) × (o ≡ at)
-  reader-refused {x} {o} h = steps (λ (t : Step) (l : List ℕ). t ≡ NoCall x o → (callsIn room (drop at s) ≡ stop (drop at s) x) × (o ≡ at)) (λ e q. absurd (omega arith)) go
+  pub reader-refused : {x : FileCause} {o : ℕ} → at ≤ length s → readAt s at room .step ≡ NoCall x o → (callsIn room (drop at s) ≡ stop (drop at s) x) × (o ≡ at)
+  reader-refused {x} {o} h = steps (λ (t : Step) (l : List ℕ). t ≡ NoCall x o → (callsIn room (drop at s) ≡ stop (drop at s) x) × (o ≡ at)) (λ e q. absurd (let z : _≡_ {A = ℕ} 0 1 = cc in omega arith)) go
     where
       go : (at ≡ length s → ⊥) → (d : Read Sent) → parse room (drop at s) ≡ d → readingOf (length s) at d .step ≡ NoCall x o → (callsIn room (drop at s) ≡ stop (drop at s) x) × (o ≡ at)
       go ne (got c r) p q = absurd (let z : _≡_ {A = ℕ} 0 1 = cc in omega arith)
@@ -85,7 +88,11 @@ module _ (s : List ℕ) (at room : ℕ) where
           let some : 0 < length (drop at s) = rw length-drop (omega arith) in
           (calls-stop room (drop at s) some (cc), cc)
 
--- a refusal leaves the series buffer as it was
+-- the file's end leaves the series buffer as it was
+pub end-keeps : (s : List ℕ) (at : ℕ) (series : List ℕ) → readAt s at (length series) .step ≡ End → seriesAfter s at series ≡ series
+end-keeps s at series e = rw (drop-of-length-le s {i = at} (omega (arith, reader-end s at (length series) e)), decode-none)
+
+-- and so does a refusal
 pub reader-keeps : (s : List ℕ) (at : ℕ) (series : List ℕ) {x : FileCause} {o : ℕ} → readAt s at (length series) .step ≡ NoCall x o → seriesAfter s at series ≡ series
 reader-keeps s at series {x} {o} =
     steps s at (length series) (λ (t : Step) (l : List ℕ). t ≡ NoCall x o → seriesAfter s at series ≡ series) (λ e q. absurd (let z : _≡_ {A = ℕ} 0 1 = cc in omega arith)) go
@@ -94,7 +101,7 @@ reader-keeps s at series {x} {o} =
     go ne (got c r) p q = absurd (let z : _≡_ {A = ℕ} 0 1 = cc in omega arith)
     go ne (refused y) p q = rw p
 
--- and so does every call that is no submission
+-- and every call that is no submission
 pub others-keep : (s : List ℕ) (at : ℕ) (series : List ℕ) {k n m : ℕ} → readAt s at (length series) .step ≡ Call k n m → (k ≡ submission → ⊥) → seriesAfter s at series ≡ series
 others-keep s at series {k} {n} {m} =
     steps s at (length series) (λ (t : Step) (l : List ℕ). t ≡ Call k n m → (k ≡ submission → ⊥) → seriesAfter s at series ≡ series) (λ e q. absurd (let z : _≡_ {A = ℕ} 0 1 = cc in omega arith)) go

@@ -1,0 +1,119 @@
+-- What an accepted call makes of an opened desk's own stores. Assumes nothing.
+use Prim.Native.Nat.{ℕ, _+_, _*_}
+use mathlib.Core.Path.{_≡_, refl, sym, ap, _∙_}
+use mathlib.Core.Bool.{true≢false}
+use mathlib.Core.List.{List, [], _∷_, _++_, map, map-append}
+use native.Mathlib.Omega.{arith}
+use lib.IntN.{ℤ}
+use lib.ListN.{length, length-append, length-map}
+use Rattle.quantity.specs.Word.{word}
+use Rattle.book.specs.Row.{splice}
+use Rattle.state.specs.Change.{submitted, noticed}
+use Rattle.state.specs.Desk.{versionsIn}
+use Rattle.state.specs.declared.Desk.{Desk}
+use Rattle.state.specs.declared.Opening.{Opening}
+use Rattle.model.specs.Agreement.{Own, left}
+use Rattle.model.specs.Call.{Call, opens, activates, deactivates, submits, notices, assigns, shows, asks, settles, Taken, takes, Stores, lengthsOf, Told}
+use Rattle.model.specs.Causes.{rules}
+use Rattle.model.specs.Laws.{Passed}
+use Rattle.model.specs.Log.{due, logged, usedAfter}
+use Rattle.model.specs.Plain.{sets, energiesOf}
+use Rattle.model.specs.Step.{granting, versionBy}
+use Rattle.model.specs.View.{viewOf}
+use Rattle.model.specs.declared.Due.{Due}
+use Rattle.model.specs.declared.Due.the-variants.{Nothing}
+use Rattle.model.proofs.Invariant.{Holds, holds-open}
+use Rattle.model.proofs.Lending.{left-own, left-every, left-book}
+use Rattle.model.proofs.Submit.{full}
+use Rattle.replay.specs.Replay.{joined, over}
+use Rattle.replay.proofs.Lengths.{length-amended, length-moved}
+use Rattle.replay.proofs.Over.{over-more, joined-more}
+
+-- the rows of values in use are the submissions' words, the other places are the base's
+pub record Rows (es : List (List ℤ)) (base now : List ℕ) (count quarters : ℕ) : Type 0 where
+  pub wide : length (joined es) ≡ count * quarters
+  pub words : now ≡ over (map word (joined es)) base
+
+rows-more : (es : List (List ℤ)) (base values : List ℕ) (n q : ℕ) (x : List ℤ) → length x ≡ q → Rows es base values n q → Rows (es ++ (x ∷ [])) base (splice values (n * q) q (map word x)) (n + 1) q
+rows-more es base values n q x e R =
+    record {
+      wide = ap length (joined-more es x) ∙ length-append (joined es) x ∙ omega (arith, R .wide);
+      words =
+          ap (λ (l : List ℕ). splice l (n * q) q (map word x)) (R .words)
+          ∙ over-more (map word (joined es)) base (map word x) (n * q) q (length-map (joined es) word ∙ R .wide) (length-map x word ∙ e)
+          ∙ ap (λ (l : List ℕ). over l base) (sym (map-append word (joined es) x) ∙ ap (map word) (sym (joined-more es x)));
+    }
+
+-- what a call leaves of the opening, the log, the book's length, the stores in their opening lengths, and the values
+pub record After (d : Desk) (s : Stores) (es : List (List ℤ)) (c : Call) : Type 0 where
+  pub opening : granting d s c .desk .opening ≡ d .opening
+  pub row : Due
+  pub log : granting d s c .stores .log ≡ logged (d .used) row (s .log)
+  pub used : granting d s c .desk .used ≡ usedAfter row (d .used)
+  pub book : length (granting d s c .stores .book) ≡ length (s .book)
+  pub kept :
+      length (granting d s c .stores .values) ≡ d .opening .values → length (granting d s c .stores .book) ≡ d .opening .book → length (granting d s c .stores .log) ≡ d .opening .log
+      → left (granting d s c .desk .opening) (takes c) s (granting d s c .stores) ≡ granting d s c .stores
+  pub rows : (base : List ℕ) → Rows es base (s .values) (d .count) (d .opening .quarters) → Rows (sets c .energies es) base (granting d s c .stores .values) (granting d s c .desk .count) (d .opening .quarters)
+
+-- the stores lent are the desk's own
+pub own-lent : (o : Opening) (t : Taken) (s : Stores) → Own o t s s
+own-lent o t s = record { values = λ a b e. refl; book = λ a b e. refl; log = λ a b e. refl }
+
+module _ (d : Desk) (s : Stores) (h : List Told) (H : Holds d s h) where
+  -- a call that leaves the stores
+  still : (c : Call) → granting d s c .desk .opening ≡ d .opening → granting d s c .stores ≡ s → granting d s c .desk .used ≡ d .used → granting d s c .desk .count ≡ d .count
+      → sets c .energies (energiesOf h) ≡ energiesOf h → After d s (energiesOf h) c
+  still c o e u n g =
+      record {
+        opening = o;
+        row = Nothing;
+        log = ap (λ (a : Stores). a .log) e;
+        used = u;
+        book = ap (λ (a : Stores). length (a .book)) e;
+        kept = λ x y z. rw (o, e) (left-own (d .opening) s s (holds-open d s h H) (takes c) (own-lent (d .opening) (takes c) s));
+        rows = λ base R. rw (g, e, n) R;
+      }
+
+  -- every call but the opening
+  pub after : (c : Call) → Passed (rules (viewOf d) (lengthsOf s) c) → After d s (energiesOf h) c
+  after (opens q f c k gs) P = absurd (true≢false (sym (holds-open d s h H) ∙ P .0))
+  after (activates p k a b e) P = still (activates p k a b e) refl refl refl refl refl
+  after (deactivates p e) P = still (deactivates p e) refl refl refl refl refl
+  after (submits p x e es) P =
+      let c = submits p x e es in
+      let ws = submitted (versionBy d p x e) (versionsIn d) in
+      record {
+        opening = refl;
+        row = due (versionsIn d) ws p e;
+        log = refl;
+        used = refl;
+        book = length-amended (d .opening .quarters) (granting d s c .stores .values) _ p (versionsIn d) ws (s .book);
+        kept = left-every (d .opening) s (granting d s c .stores);
+        rows = λ base R. rows-more (energiesOf h) base (s .values) (d .count) (d .opening .quarters) es (full p x e es d s h H P) R;
+      }
+  after (notices p x y e) P =
+      let c = notices p x y e in
+      let ws = noticed (d .opening .clearing .0) p x y e (versionsIn d) in
+      record {
+        opening = refl;
+        row = due (versionsIn d) ws p e;
+        log = refl;
+        used = refl;
+        book = length-amended (d .opening .quarters) (s .values) _ p (versionsIn d) ws (s .book);
+        kept = left-every (d .opening) s (granting d s c .stores);
+        rows = λ base R. R;
+      }
+  after (assigns a g e) P =
+      record {
+        opening = refl;
+        row = Nothing;
+        log = refl;
+        used = refl;
+        book = length-moved (d .opening .quarters) a _ g (s .book);
+        kept = λ x y z. left-book (d .opening) s (granting d s (assigns a g e) .stores) y;
+        rows = λ base R. R;
+      }
+  after (shows r g) P = still (shows r g) refl refl refl refl refl
+  after (asks p x) P = still (asks p x) refl refl refl refl refl
+  after (settles r e) P = still (settles r e) refl refl refl refl refl

@@ -1,0 +1,83 @@
+-- What the invariant gives at the end of a replay. Assumes nothing.
+use Prim.Native.Nat.{ℕ, _+_, _*_, _≤_, _<_}
+use mathlib.Core.Path.{_≡_, refl, sym, ap, _∙_}
+use mathlib.Core.List.{List, []}
+use native.Mathlib.Omega.{arith}
+use lib.ListN.{length, getD}
+use lib.Seq.{getD-take}
+use Rattle.quantity.specs.Limits.{runs, groups, runRows}
+use Rattle.quantity.specs.Word.{signed}
+use Rattle.quantity.proofs.Sums.{sum-same}
+use Rattle.book.specs.Place.{groupRow, rowStart}
+use Rattle.book.proofs.Places.{row-within}
+use Rattle.model.specs.Agreement.{Running, fresh, Agree, bookFigure}
+use Rattle.model.specs.Call.{Stores, Lengths, Told}
+use Rattle.model.specs.Log.{logNumbers}
+use Rattle.model.specs.Plain.{openingOf, dayOf, pointsOf, groupsOf, versionsOf, energiesOf, logOf, settledOf, viewIn}
+use Rattle.model.specs.View.{View}
+use Rattle.model.proofs.Ends.{holds-agree}
+use Rattle.model.proofs.Invariant.{count-is}
+use Rattle.replay.specs.Replay.{joined, Holding, Leaving}
+use Rattle.replay.proofs.Going.{Going, unopened, opened}
+use Rattle.replay.proofs.Opened.{figuresOf, ownOf, Opened}
+use Rattle.replay.proofs.Over.{over-split}
+
+-- a desk that was never opened, and its stores
+fresh-holding : (s : Stores) → Holding [] (fresh s .desk)
+unfolding viewIn openingOf dayOf pointsOf groupsOf versionsOf logOf settledOf
+fresh-holding s = record { view = refl; groups = refl; count = refl }
+
+fresh-leaving : (s : Stores) → Leaving [] s s
+unfolding openingOf energiesOf logOf logNumbers joined
+fresh-leaving s =
+    record {
+      values = refl;
+      log = refl;
+      figures = λ run k q _ _ _ l. absurd (omega arith);
+      sum = λ run q _ _ l. absurd (omega arith);
+      others = refl;
+      size = refl;
+    }
+
+module _ (s : Stores) (r : Running) (h : List Told) (G : Opened s r h) where
+  -- the desk with its own stores
+  abbrev own : Running
+  own = record { desk = r .desk; stores = ownOf r }
+
+  agrees : Agree [] own [] h
+  agrees = holds-agree [] [] own h refl (G .holds)
+
+  -- a figure of the book is one of them
+  own-figure : (run k q : ℕ) → 1 ≤ run → run ≤ runs → k < runRows → q < r .desk .opening .quarters → signed (getD (r .stores .book) (rowStart (r .desk .opening .quarters) run k + q) 0) ≡ bookFigure own run k q
+  unfolding bookFigure
+  own-figure run k q a b c l =
+      let Q = r .desk .opening .quarters in
+      ap signed (sym (getD-take (figuresOf (r .desk .opening)) (r .stores .book) (rowStart Q run k + q) 0 (omega (arith, row-within Q run k a b c))))
+
+  opened-leaving : Leaving h s (r .stores)
+  opened-leaving =
+      let A = agrees in
+      let K = G .holds .kept in
+      record {
+        values = G .rows .words;
+        log = over-split (logNumbers (logOf h)) (s .log) (r .stores .log) (4 * r .desk .used) (omega (arith, K .framed .used, K .logLong)) (K .logged) (G .log);
+        figures = rw (← A .opening) (λ run k q a b c l. own-figure run k q a b c l ∙ A .figures run k q a b c l);
+        sum =
+            rw (← A .opening)
+            (λ run q a b l. sum-same groups _ (λ (g : ℕ). bookFigure own run (groupRow g) q) (λ i lo hi. own-figure run (groupRow i) q a b (omega arith) l) ∙ A .sum run q a b l);
+        others = rw (← A .opening) (G .book);
+        size = ap (λ (n : Lengths). n .book) (G .lengths);
+      }
+
+-- the desk holds what the plain desk works out
+pub going-holding : (s : Stores) (r : Running) (h : List Told) → Going s r h → Holding h (r .desk)
+unfolding viewIn
+going-holding s r h (unopened a b) = rw (a, b) (fresh-holding s)
+going-holding s r h (opened G) =
+    let H = G .holds in
+    record { view = H .view; groups = H .groups; count = sym (count-is (r .desk) (H .table)) ∙ ap (λ (v : View). length (v .versions)) (H .view) }
+
+-- and so do its stores
+pub going-leaving : (s : Stores) (r : Running) (h : List Told) → Going s r h → Leaving h s (r .stores)
+going-leaving s r h (unopened a b) = rw (a, b) (fresh-leaving s)
+going-leaving s r h (opened G) = opened-leaving s r h G

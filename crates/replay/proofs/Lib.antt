@@ -1,0 +1,13 @@
+pub mod Accepted
+pub mod Ends
+pub mod Going
+pub mod Kept
+pub mod Lengths
+pub mod Main
+pub mod Opened
+pub mod Over
+pub mod Parts
+pub mod Runs
+pub mod Sendings
+pub mod Steps
+pub mod Whole

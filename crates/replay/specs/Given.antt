@@ -1,0 +1,24 @@
+-- A call of the file, as the desk gets it.
+use Prim.Native.Nat.{ℕ}
+use mathlib.Core.List.{List}
+use lib.IntN.{ℤ}
+use lib.ListN.{length}
+use Rattle.message.specs.Call.{Sent}
+use Rattle.message.specs.Named.{callOf, groupsOf}
+use Rattle.message.specs.declared.FileCall.{FileCall}
+use Rattle.message.specs.declared.FileCall.the-variants.{Open, Activate, Deactivate, Submit, Notice, Assign, Settle}
+use Rattle.model.specs.Call.{Call, opens, activates, deactivates, submits, notices, assigns, settles}
+
+-- a call by its kind, with an opening's delta groups and a submission's energies
+unfoldable pub asked : FileCall → (groups : List ℕ) (energies : List ℤ) → Call
+asked (Open q f c k) gs es = opens q (f .0) (c .0) (k .0) gs
+asked (Activate p k a b d) gs es = activates (p .0) k a b (d .0)
+asked (Deactivate p d) gs es = deactivates (p .0) (d .0)
+asked (Submit p x d n) gs es = submits (p .0) (x .0) (d .0) es
+asked (Notice p x y d) gs es = notices (p .0) (x .0) y (d .0)
+asked (Assign a g d) gs es = assigns a g (d .0)
+asked (Settle r d) gs es = settles r (d .0)
+
+-- "A call is its kind, then fields in the order above"
+unfoldable pub given : Sent → Call
+given c = asked (callOf (c .kind) (c .fields) (length (c .energies))) (groupsOf (c .fields)) (c .energies)

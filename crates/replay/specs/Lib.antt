@@ -1,0 +1,5 @@
+pub mod Feeding
+pub mod Given
+pub mod Play
+pub mod Replay
+pub mod Run

@@ -1,0 +1,55 @@
+-- The running desk on one call of a file after the other, with its stores, the series buffer and the answers whole.
+use Prim.Native.Nat.{ℕ, suc}
+use mathlib.Core.List.{List, [], _∷_, _++_}
+use lib.ListN.{length, set, take, drop}
+use Rattle.message.specs.Call.{Sent}
+use Rattle.model.specs.Agreement.{Running, fresh}
+use Rattle.model.specs.Call.{Call, Stores, Lent, answerNumber}
+use Rattle.model.specs.Step.{Outcome, step, withBook}
+use Rattle.reader.specs.Reader.{filled}
+use Rattle.replay.specs.Feeding.{quartersFor, lentOf}
+use Rattle.replay.specs.Given.{given}
+
+-- how many figures of the book a call is lent
+unfoldable pub reach : Running → Call → ℕ
+reach r c = lentOf (length (r .stores .book)) (quartersFor (r .desk .opening .quarters) c)
+
+-- a call with what is lent to it: the first figures of the book, the other stores whole
+unfoldable pub lentTo : Running → Call → Lent
+lentTo r c = record { call = c; stores = withBook (r .stores) (take (reach r c) (r .stores .book)) }
+
+-- the call's outcome
+abbrev pub outcomeOf : Running → Call → Outcome
+outcomeOf r c = step (r .desk) (lentTo r c)
+
+-- the desk and its stores after the call; the book's other figures stay
+unfoldable pub handed : Running → Call → Running
+handed r c =
+    let o = outcomeOf r c in
+    record { desk = o .desk; stores = withBook (o .stores) (o .stores .book ++ drop (reach r c) (r .stores .book)) }
+
+-- a replay under way: the desk and its stores, the series buffer, the answers with those given so far
+pub record Playing : Type 0 where
+  pub running : Running
+  pub series : List ℕ
+  pub answers : List ℕ
+  pub answered : ℕ
+
+-- one call of the file more
+unfoldable pub played : Playing → Sent → Playing
+played p c =
+    record {
+      running = handed (p .running) (given c);
+      series = filled (c .energies) (p .series);
+      answers = set (p .answers) (p .answered) (answerNumber (outcomeOf (p .running) (given c) .answer));
+      answered = suc (p .answered);
+    }
+
+-- one after the other
+unfoldable pub play : Playing → List Sent → Playing
+play p [] = p
+play p (c ∷ l) = play (played p c) l
+
+-- "Two desks start fresh and unopened, whatever the stores hold."
+abbrev pub starting : Stores → (series answers : List ℕ) → Playing
+starting s series answers = record { running = fresh s; series = series; answers = answers; answered = 0 }

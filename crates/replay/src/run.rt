@@ -1,0 +1,80 @@
+// The calls of a file on a fresh desk, one after the other.
+use crate::Ending;
+use crate::Replayed;
+use crate::part::hand_part;
+use reader::Step;
+use reader::read_call;
+use state::fresh::fresh_desk;
+use verdict::numbers::number_of;
+ghost use mathlib.Core.Path.{_≡_};
+ghost use mathlib.Core.Bool.{cond};
+ghost use lib.Dec.{eqb};
+ghost use Rattle.verdict.specs.Stepped.{storesOf};
+ghost use Rattle.replay.specs.Play.{starting};
+ghost use Rattle.replay.specs.Run.{playingOf, endedBy, Ran};
+ghost use Rattle.replay.specs.declared.Ending.the-variants.{End, Full};
+
+// How a file ends where no call is read.
+fn ended_by(step: Step) -> Ending
+    ensures { λ r. ⌜ r ≡ endedBy step ⌝ }
+{
+    match step {
+        Step::Call {
+            kind: _,
+            count: _,
+            next: _,
+        } => Ending::Full,
+        Step::End => Ending::End,
+        Step::Refused { cause, offset } => Ending::Refused { cause, offset },
+    }
+}
+
+// How it ends where the answers are full.
+fn ended_at(at: usize, length: usize) -> Ending
+    ensures { λ r. ⌜ r ≡ cond (eqb at length) End Full ⌝ }
+{
+    if at == length {
+        Ending::End
+    } else {
+        Ending::Full
+    }
+}
+
+// While there is room for an answer the next call is read and handed on with its energies. Without room the next call is not looked at.
+pub fn run_file(
+    file: &[u8],
+    values: &mut [u64],
+    book: &mut [u64],
+    log: &mut [u64],
+    series: &mut [u64],
+    answers: &mut [u64],
+) -> Replayed
+    ensures { λ r. ⌜ Ran (now (file .entry)) (starting (storesOf (now (values .entry)) (now (book .entry)) (now (log .entry))) (now (series .entry)) (now (answers .entry))) (playingOf (r .desk) (storesOf (now (values .exit)) (now (book .exit)) (now (log .exit))) (now (series .exit)) (now (answers .exit)) (r .answered)) (r .ending) ⌝ }
+{
+    let mut desk = fresh_desk();
+    let mut at = 0;
+    let mut answered = 0;
+    while answered < answers.len() {
+        let reading = read_call(file, at, series);
+        let step = reading.step;
+        let fields = reading.fields;
+        let Step::Call { kind, count, next } = step else {
+            return Replayed {
+                answered,
+                ending: ended_by(step),
+                desk,
+            };
+        };
+        let out = hand_part(desk, kind, fields, &series[0..count], values, book, log);
+        let answer = out.answer;
+        answers[answered] = number_of(answer);
+        desk = out.desk;
+        answered += 1;
+        at = next;
+    }
+    Replayed {
+        answered,
+        ending: ended_at(at, file.len()),
+        desk,
+    }
+}

@@ -1,0 +1,120 @@
+//! What the compared calls were: how often each answer came up, and how often each case that is easy to get wrong.
+
+use crate::call::{Call, Lengths};
+use crate::desk::{Answer, Desk, LOG_ROW, MOST_VERSIONS};
+use crate::tally::Tally;
+use crate::worked::{Month, Point};
+
+/// Gives a call to the plain desk, and counts it.
+pub fn called(tally: &mut Tally, desk: &mut Desk, call: &Call, lent: Lengths) -> Answer {
+    let calls = desk.list().len();
+    let answer = desk.call(call, lent);
+    let before = Month::of(&desk.list()[..calls]);
+    match (&answer, &before) {
+        (Answer::Refused(number), None) => count_unopened(tally, call, *number),
+        (Answer::Refused(number), Some(before)) => {
+            tally.add(call.name(), *number);
+            count_refused(tally, before, lent, *number);
+        }
+        (Answer::Status(status), _) => tally.add("status given", *status),
+        (_, None) => tally.add(call.name(), 0),
+        (_, Some(before)) => {
+            tally.add(call.name(), 0);
+            let after = desk.month().expect("an open desk");
+            count_accepted(tally, before, &after, call);
+        }
+    }
+    answer
+}
+
+fn count_unopened(tally: &mut Tally, call: &Call, number: u64) {
+    match call {
+        Call::Open { .. } => tally.add(call.name(), number),
+        _ => tally.add("desk not open", number),
+    }
+}
+
+fn count_refused(tally: &mut Tally, before: &Month, lent: Lengths, number: u64) {
+    let right = before.lengths;
+    match number {
+        2 if lent
+            == (Lengths {
+                values: lent.values,
+                ..right
+            }) =>
+        {
+            tally.add("values of another length", 2)
+        }
+        2 if lent
+            == (Lengths {
+                log: lent.log,
+                ..right
+            }) =>
+        {
+            tally.add("log of another length", 2)
+        }
+        2 => tally.add("book of another length", 2),
+        16 if before.rows.len() == MOST_VERSIONS => tally.add("512 versions held", 16),
+        16 => tally.add("next row exceeds values", 16),
+        _ => {}
+    }
+}
+
+fn count_accepted(tally: &mut Tally, before: &Month, after: &Month, call: &Call) {
+    let point = call.point().and_then(|point| after.points.get(&point));
+    let gained = after.log.len() > before.log.len();
+    match (call, point) {
+        (Call::Activate { .. }, _) if after.points.len() == 256 => {
+            tally.add("256 points active", 0);
+        }
+        (Call::Submit { .. }, Some(point)) => {
+            tally.add("kind of the series submitted", point.kind);
+            count_selection(tally, after, point, gained);
+        }
+        (Call::Notice { version, .. }, Some(point)) => {
+            count_selection(tally, after, point, gained);
+            count_notice(tally, point, *version, gained);
+        }
+        (Call::Assign { area, .. }, _) if before.figures(1) != after.figures(1) => {
+            tally.add("assign that moves a delta", u64::from(*area > 0));
+        }
+        (Call::Settle { run, .. }, _) => tally.add("run settled", *run),
+        _ => {}
+    }
+}
+
+/// A submission or a notice, by what it makes of its point's selection.
+fn count_selection(tally: &mut Tally, after: &Month, point: &Point, gained: bool) {
+    let full = LOG_ROW * after.log.len() as u64 == after.lengths.log;
+    if full && !gained {
+        tally.add("log full and no row due", 0);
+    }
+    if gained && on_one_row(after, point) {
+        tally.add("both sides on one row", point.kind);
+    }
+}
+
+/// A notice, by what it makes of its version.
+fn count_notice(tally: &mut Tally, point: &Point, version: u64, gained: bool) {
+    let status = point.version(version).map_or(0, |v| v.status);
+    if status == 1 {
+        tally.add("negative notice", 0);
+        return;
+    }
+    if point.versions.iter().any(|v| v.number > version) {
+        tally.add("positive notice, older version", status);
+    }
+    if !gained {
+        tally.add("notice below the selected one", 0);
+    }
+    let own = |run| point.own(run).map(|v| v.number);
+    if gained && own(2).is_some() && own(2) < own(1) {
+        tally.add("run 2's own below run 1's", 0);
+    }
+}
+
+/// Whether a point adds its value to one row twice.
+fn on_one_row(month: &Month, point: &Point) -> bool {
+    let rows = month.rows_of(point);
+    (1..rows.len()).any(|at| rows[..at].iter().any(|row| row.0 == rows[at].0))
+}

@@ -1,0 +1,268 @@
+//! Months of calls from a seed. The plain desk goes along, so that most calls are such as a desk accepts, and each
+//! refusal comes up.
+
+use crate::call::{Call, Lengths, DELTAS};
+use crate::compare::{Step, Trial};
+use crate::damage::FIELDS;
+use crate::desk::Desk;
+use crate::generator::Random;
+use crate::pick::Pick;
+
+/// What a month is like.
+#[derive(Clone, Copy, Debug, PartialEq, Eq)]
+pub enum Size {
+    /// Some 60 calls.
+    Short,
+    /// So many submissions that 512 versions are held.
+    Versions,
+    /// So many activations that 256 points are active.
+    Points,
+    /// Some 60 calls in a month of so many quarter hours.
+    Quarters(u64),
+}
+
+/// Numbers at the ends of a field's range, beyond them, and such as a narrower number takes for others.
+pub const ENDS: [u64; 27] = [
+    0,
+    1,
+    2,
+    3,
+    5,
+    6,
+    15,
+    16,
+    17,
+    63,
+    64,
+    65,
+    255,
+    256,
+    257,
+    399,
+    400,
+    401,
+    2_980,
+    2_981,
+    65_535,
+    65_536,
+    99_999_999_999_999,
+    100_000_000_000_000,
+    1 << 63,
+    u64::MAX - 1,
+    u64::MAX,
+];
+
+/// What is added to a right number, so that its lower bits stay right.
+pub const BEYOND: [u64; 4] = [1 << 8, 1 << 16, 1 << 32, 1 << 63];
+
+/// What the calls of a month are chosen from.
+pub(crate) struct Plan {
+    pub(crate) opening: Call,
+    pub(crate) quarters: u64,
+    pub(crate) lengths: Lengths,
+    pub(crate) places: Lengths,
+    pub(crate) size: Size,
+    /// Days that the month goes through, some more than once.
+    pub(crate) days: Vec<u64>,
+    pub(crate) points: Vec<u64>,
+    pub(crate) groups: Vec<u64>,
+    pub(crate) areas: Vec<u64>,
+}
+
+/// A month from the seed.
+pub fn month(random: &mut Random, size: Size) -> Trial {
+    let plan = plan(random, size);
+    let calls = match size {
+        Size::Short | Size::Quarters(_) => 40 + random.below(41),
+        Size::Versions => 690 + random.below(40),
+        Size::Points => 440 + random.below(260),
+    };
+    let mut trial = Trial {
+        places: plan.places,
+        seed: random.word(),
+        steps: Vec::new(),
+    };
+    let mut desk = Desk::new();
+    let pace = match size {
+        Size::Versions => 50,
+        _ => 70 + random.below(50),
+    };
+    for at in 0..calls {
+        let progress = (plan.days.len() * at * pace) / (calls * 100);
+        let planned = plan.days[progress.min(plan.days.len() - 1)];
+        let step = step(random, &plan, &desk, planned);
+        if let Step::Call(call, lent) = &step {
+            desk.call(call, *lent);
+        }
+        trial.steps.push(step);
+    }
+    trial
+}
+
+/// Calls from the seed that the desk refuses as it stands.
+pub fn refused(random: &mut Random, trial: &Trial, desk: &Desk, calls: usize) -> Vec<Step> {
+    let mut plan = plan(random, Size::Short);
+    plan.places = trial.places;
+    let mut refused = Vec::new();
+    while refused.len() < calls {
+        let day = desk.month().map_or(0, |month| month.day);
+        let Step::Call(call, lent) = step(random, &plan, desk, day) else {
+            continue;
+        };
+        let lent = lent.within(trial.places);
+        let mut desk = desk.clone();
+        let before = desk.list().len();
+        desk.call(&call, lent);
+        if desk.list().len() == before {
+            refused.push(Step::Call(call, lent));
+        }
+    }
+    refused
+}
+
+fn plan(random: &mut Random, size: Size) -> Plan {
+    let quarters = match size {
+        Size::Quarters(quarters) => quarters,
+        Size::Short => random.of(&[1, 1, 2, 2, 3, 4]),
+        Size::Versions | Size::Points => random.of(&[1, 1, 1, 2]),
+    };
+    let long = matches!(size, Size::Versions | Size::Points);
+    let (first, clearing, correction) = match random.below(10) {
+        0 if !long => (1, 2, 3),
+        1 if !long => (397, 398, 399),
+        2 => (5, 6, 399),
+        _ => {
+            let first = 2 + random.below(12) as u64;
+            let clearing = first + 1 + random.below(30) as u64;
+            (first, clearing, clearing + 1 + random.below(120) as u64)
+        }
+    };
+    let (rows, log_rows) = match size {
+        Size::Versions => (512 + random.below(3), 600),
+        Size::Points => (600, random.of(&[100, 512])),
+        _ => (
+            random.of(&[0, 3, 7, 40, 40, 40, 40, 600]),
+            random.of(&[0, 1, 2, 4, 8, 40, 40, 40, 40]),
+        ),
+    };
+    let lengths = Lengths {
+        values: rows as u64 * quarters + random.below(quarters as usize) as u64,
+        book: 162 * quarters,
+        log: 4 * log_rows as u64,
+    };
+    let groups = (0..3 + random.below(4)).map(|_| 1 + random.below(64) as u64);
+    let groups: Vec<u64> = groups.chain([1, 64]).collect();
+    let areas = (0..2 + random.below(3)).map(|_| 1 + random.below(16) as u64);
+    let areas = areas.chain([1, 16]).collect();
+    let points = match size {
+        Size::Points => (1..=256).collect(),
+        Size::Versions => (0..40).map(|_| 1 + random.below(256) as u64).collect(),
+        _ => {
+            let points = (0..5 + random.below(6)).map(|_| 1 + random.below(256) as u64);
+            points.chain([1, 256]).collect()
+        }
+    };
+    let mut delta_groups = [0; DELTAS];
+    delta_groups.fill_with(|| random.of(&groups));
+    Plan {
+        opening: Call::Open {
+            quarters,
+            first,
+            clearing,
+            correction,
+            groups: delta_groups,
+        },
+        quarters,
+        lengths,
+        places: Lengths {
+            values: lengths.values + 5,
+            book: lengths.book + 165,
+            log: lengths.log + 8,
+        },
+        size,
+        days: days(random, size, first, clearing, correction),
+        points,
+        groups,
+        areas,
+    }
+}
+
+/// The days that a month goes through: before and after each deadline.
+fn days(random: &mut Random, size: Size, f: u64, c: u64, k: u64) -> Vec<u64> {
+    let mut between = |from: u64, to: u64| from + random.below((to - from + 1) as usize) as u64;
+    let (early, middle, late) = (between(0, f), between(f, c), between(c, k));
+    let mut days = vec![0, early.min(2), 2.min(f), f, f];
+    match size {
+        Size::Versions => {}
+        Size::Points => days.extend([0; 16]),
+        _ => days.push(0),
+    }
+    days.extend([f + 1, f + 1, f + 1, middle, c, c, c]);
+    days.extend([c + 1, c + 1, late, late, k, k, k + 1, 400]);
+    days.sort_unstable();
+    days
+}
+
+/// One step: mostly a call, seldom a few of them to a damaged desk.
+fn step(random: &mut Random, plan: &Plan, desk: &Desk, planned: u64) -> Step {
+    let month = desk.month();
+    let Some(month) = &month else {
+        return unopened(random, plan);
+    };
+    let mut pick = Pick {
+        random,
+        plan,
+        month,
+        planned,
+    };
+    if !pick.random.once_in(50) {
+        let (call, lent) = pick.call();
+        return Step::Call(call, lent);
+    }
+    let calls = 1 + pick.random.below(4);
+    Step::Damaged {
+        field: pick.random.below(FIELDS.len()),
+        choice: pick.random.below(1 << 20),
+        calls: (0..calls).map(|_| pick.call()).collect(),
+    }
+}
+
+/// A step before the opening: the opening, often with something wrong in it, or another call.
+fn unopened(random: &mut Random, plan: &Plan) -> Step {
+    let mut lent = plan.lengths;
+    let call = match random.below(5) {
+        0 => any_call(random, plan.quarters),
+        1 => {
+            let length = 1 + random.below(5) as u64;
+            match random.below(3) {
+                0 => lent.book = plan.places.book - length,
+                1 => lent.log += 1 + random.below(3) as u64,
+                _ => return Step::Call(changed(random, &plan.opening), lent),
+            }
+            plan.opening.clone()
+        }
+        _ => plan.opening.clone(),
+    };
+    Step::Call(call, lent)
+}
+
+/// A call with numbers of no meaning.
+pub(crate) fn any_call(random: &mut Random, quarters: u64) -> Call {
+    let number = 2 + random.below(8) as u64;
+    let fields = [0, 21, 5, 2, 3 + quarters as usize, 4, 3, 2, 2, 2][number as usize];
+    let fields: Vec<u64> = (0..fields).map(|_| random.of(&ENDS)).collect();
+    Call::of(number, &fields).expect("so many fields")
+}
+
+/// A call with one of its numbers changed to one at the end of a range, beyond it, or far beyond it.
+pub(crate) fn changed(random: &mut Random, call: &Call) -> Call {
+    let mut fields = call.fields();
+    let field = random.below(fields.len());
+    let number = fields[field];
+    fields[field] = match random.below(4) {
+        0 => number.wrapping_add(random.of(&BEYOND)),
+        1 => number.wrapping_add(random.of(&[1, u64::MAX])),
+        _ => random.of(&ENDS),
+    };
+    Call::of(call.number(), &fields).expect("as many fields")
+}

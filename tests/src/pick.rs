@@ -1,0 +1,329 @@
+//! The choice of calls to an open desk: mostly such as it accepts, and some for each refusal.
+
+use crate::call::{Call, Lengths};
+use crate::generator::Random;
+use crate::months::{any_call, changed, Plan, Size};
+use crate::worked::{Month, Point};
+
+/// Largest energy.
+const LARGEST: i64 = 1_000_000_000_000;
+
+/// A choice of calls to an open desk.
+pub(crate) struct Pick<'a> {
+    pub(crate) random: &'a mut Random,
+    pub(crate) plan: &'a Plan,
+    pub(crate) month: &'a Month<'a>,
+    /// The day that the plan has come to.
+    pub(crate) planned: u64,
+}
+
+impl<'a> Pick<'a> {
+    /// A number below `end`, from which the few first choose something unusual; below more in a long month, that it
+    /// reaches its end.
+    fn among(&mut self, end: usize) -> usize {
+        let long = matches!(self.plan.size, Size::Versions | Size::Points);
+        self.random.below(if long { 12 * end } else { end })
+    }
+
+    /// A call, with the lengths lent to it.
+    pub(crate) fn call(&mut self) -> (Call, Lengths) {
+        let mut call = self.right_call();
+        match self.among(60) {
+            0 | 1 => call = changed(self.random, &call),
+            2 => call = any_call(self.random, self.month.quarters),
+            _ => {}
+        }
+        let lent = self.lent(&call);
+        (call, lent)
+    }
+
+    fn right_call(&mut self) -> Call {
+        let weights = match self.plan.size {
+            Size::Versions if self.month.points.len() >= 20 => [1, 1, 1, 240, 6, 2, 2, 2, 2],
+            Size::Versions => [1, 90, 1, 8, 1, 1, 1, 1, 1],
+            Size::Points if self.month.points.len() < 256 && self.planned == 0 => {
+                [1, 300, 1, 2, 1, 1, 1, 1, 1]
+            }
+            _ if self.month.points.len() < 3 => [1, 40, 2, 12, 2, 4, 2, 2, 4],
+            _ => [2, 9, 6, 40, 28, 9, 7, 8, 7],
+        };
+        let mut choice = self.random.below(weights.iter().sum());
+        let mut number = 0;
+        while choice >= weights[number] {
+            choice -= weights[number];
+            number += 1;
+        }
+        let choose = [
+            Pick::open,
+            Pick::activate,
+            Pick::deactivate,
+            Pick::submit,
+            Pick::notice,
+            Pick::assign,
+            Pick::show,
+            Pick::status,
+            Pick::settle,
+        ];
+        choose[number](self)
+    }
+
+    /// The opening's lengths for stores that the call takes, seldom another; any for the others.
+    fn lent(&mut self, call: &Call) -> Lengths {
+        let right = self.month.lengths;
+        let mut lent = right;
+        let takes_all = matches!(call, Call::Submit { .. } | Call::Notice { .. });
+        let takes_book = takes_all || matches!(call, Call::Assign { .. } | Call::Show { .. });
+        let others = self.random.once_in(2);
+        if (!takes_all && others) || self.among(60) == 0 {
+            lent.values = self.length(right.values, self.plan.places.values);
+        }
+        if (!takes_all && others) || self.among(60) == 0 {
+            lent.log = self.length(right.log, self.plan.places.log);
+        }
+        if (!takes_book && others) || self.among(60) == 0 {
+            lent.book = self.length(right.book, self.plan.places.book);
+        }
+        lent
+    }
+
+    /// A length about the right one, not above the most that there is to lend.
+    fn length(&mut self, right: u64, most: u64) -> u64 {
+        let length = match self.random.below(5) {
+            0 => 0,
+            1 => right.saturating_sub(1),
+            2 => right + 1,
+            3 => right + 4,
+            _ => most,
+        };
+        length.min(most)
+    }
+
+    /// Today: the day that the month has come to, seldom another.
+    fn day(&mut self) -> u64 {
+        let Month {
+            day,
+            first,
+            clearing,
+            correction,
+            ..
+        } = *self.month;
+        let today = day.max(self.planned);
+        match self.among(64) {
+            0..=2 => day.wrapping_sub(1),
+            3 => today + 1,
+            4 => today + 2,
+            5 => {
+                let deadline = self.random.of(&[first, clearing, correction]);
+                deadline + self.random.below(2) as u64
+            }
+            6 => self.random.of(&[0, 399, 400, 401]),
+            _ => today,
+        }
+    }
+
+    fn open(&mut self) -> Call {
+        self.plan.opening.clone()
+    }
+
+    /// Kind, area and partner that stand together in the table of series.
+    fn series(&mut self) -> (u64, u64, u64) {
+        let any = self.plan.size == Size::Points || self.random.once_in(4);
+        let area = if any {
+            1 + self.random.below(16) as u64
+        } else {
+            self.random.of(&self.plan.areas)
+        };
+        let group = if any {
+            1 + self.random.below(64) as u64
+        } else {
+            self.random.of(&self.plan.groups)
+        };
+        match self.random.below(if self.plan.size == Size::Points {
+            30
+        } else {
+            7
+        }) {
+            0 => (1, area, 0),
+            1 => (1, area, self.random.below(area as usize) as u64),
+            2 => (3, area, 0),
+            3 => (4, 0, group),
+            4 => (5, area, 0),
+            _ => (2, area, group),
+        }
+    }
+
+    fn activate(&mut self) -> Call {
+        let points = &self.plan.points;
+        let free = points.iter().copied();
+        let free = free.filter(|point| !self.month.points.contains_key(point));
+        let free: Vec<u64> = free.collect();
+        let point = if free.is_empty() || self.among(20) == 0 {
+            self.random.of(points)
+        } else {
+            self.random.of(&free)
+        };
+        let active = self.active().filter(|_| self.among(12) == 0);
+        let (kind, area, partner) = match active {
+            Some((_, active)) => (active.kind, active.area, active.partner),
+            None => self.series(),
+        };
+        Call::Activate {
+            point,
+            kind,
+            area,
+            partner,
+            day: self.day(),
+        }
+    }
+
+    /// One of the active points.
+    fn active(&mut self) -> Option<(u64, &'a Point)> {
+        let points = &self.month.points;
+        if points.is_empty() {
+            return None;
+        }
+        let at = self.random.below(points.len());
+        points
+            .iter()
+            .nth(at)
+            .map(|(&number, point)| (number, point))
+    }
+
+    /// Mostly an active point.
+    fn point(&mut self) -> u64 {
+        let other = self.random.of(&self.plan.points);
+        if self.among(20) == 0 {
+            return other;
+        }
+        self.active().map_or(other, |(number, _)| number)
+    }
+
+    fn deactivate(&mut self) -> Call {
+        Call::Deactivate {
+            point: self.point(),
+            day: self.day(),
+        }
+    }
+
+    fn energy(&mut self) -> u64 {
+        let energy = match self.random.below(12) {
+            0 => self.random.of(&[0, 1, -1, LARGEST, -LARGEST]),
+            _ => self.random.below(2_000_000) as i64 - 1_000_000,
+        };
+        energy as u64
+    }
+
+    /// Mostly a point that is active for two days.
+    fn ripe_point(&mut self) -> u64 {
+        let today = self.month.day.max(self.planned);
+        let unripe = |active: &Point| active.since + 2 > today;
+        let mut point = self.point();
+        for _ in 0..3 {
+            if self.month.points.get(&point).is_some_and(unripe) {
+                point = self.point();
+            }
+        }
+        point
+    }
+
+    fn submit(&mut self) -> Call {
+        let point = self.ripe_point();
+        let active = self.month.points.get(&point);
+        let highest = active.and_then(|p| p.versions.iter().map(|v| v.number).max());
+        let above = 1 + self.random.below(3) as u64;
+        let version = match highest {
+            None if self.random.once_in(100) => 99_999_999_999_999 - self.random.below(9) as u64,
+            None => above,
+            Some(highest) => match self.among(24) {
+                0 => highest,
+                1 | 2 => highest.saturating_sub(above).max(1),
+                _ => highest + above,
+            },
+        };
+        let quarters = self.month.quarters;
+        let energies = match self.among(80) {
+            0 => quarters + 1,
+            1 => quarters - 1,
+            _ => quarters,
+        };
+        let mut series: Vec<u64> = (0..energies).map(|_| self.energy()).collect();
+        if self.among(60) == 0 && !series.is_empty() {
+            let at = self.random.below(series.len());
+            let foreign = [LARGEST + 1, -LARGEST - 1, i64::MAX, i64::MIN];
+            series[at] = self.random.of(&foreign) as u64;
+        }
+        Call::Submit {
+            point,
+            version,
+            day: self.day(),
+            series,
+        }
+    }
+
+    /// One of the versions, mostly of a status that is looked for.
+    fn version(&mut self, status: Option<u64>) -> (u64, u64) {
+        let versions = |wanted: Option<u64>| {
+            let points = self.month.points.iter();
+            let versions =
+                points.flat_map(|(&point, p)| p.versions.iter().map(move |v| (point, v)));
+            let versions = versions.filter(move |(_, v)| wanted.is_none_or(|s| s == v.status));
+            versions.map(|(point, v)| (point, v.number)).collect()
+        };
+        let mut found: Vec<(u64, u64)> = versions(status);
+        if found.is_empty() || self.random.once_in(8) {
+            found = versions(None);
+        }
+        if found.is_empty() || self.random.once_in(16) {
+            return (self.point(), 1 + self.random.below(6) as u64);
+        }
+        self.random.of(&found)
+    }
+
+    fn notice(&mut self) -> Call {
+        let (point, version) = self.version(Some(1));
+        Call::Notice {
+            point,
+            version,
+            verdict: u64::from(!self.random.once_in(6)),
+            day: self.day(),
+        }
+    }
+
+    fn assign(&mut self) -> Call {
+        let active = self.active().map(|(_, point)| (point.area, point.partner));
+        let (area, partner) = active.unwrap_or((0, 1));
+        Call::Assign {
+            area: match self.random.below(4) {
+                0 => self.random.below(17) as u64,
+                _ => area,
+            },
+            group: match self.random.below(4) {
+                0 => partner.max(1),
+                _ => self.random.of(&self.plan.groups),
+            },
+            day: self.day(),
+        }
+    }
+
+    fn show(&mut self) -> Call {
+        Call::Show {
+            run: 1 + self.random.below(2) as u64,
+            group: match self.random.below(4) {
+                0 => 1 + self.random.below(64) as u64,
+                _ => self.random.of(&self.plan.groups),
+            },
+        }
+    }
+
+    fn status(&mut self) -> Call {
+        let (point, version) = self.version(None);
+        Call::Status { point, version }
+    }
+
+    fn settle(&mut self) -> Call {
+        Call::Settle {
+            run: 1 + self.random.below(2) as u64,
+            day: self.day(),
+        }
+    }
+}

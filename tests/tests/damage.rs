@@ -1,0 +1,234 @@
+//! Cause 1: each field of the desk's state at the last value inside its limits and at the first outside them.
+
+use emorizugu_tests::call::{Call, Lengths};
+use emorizugu_tests::compare::{compare, expected, Step, Trial};
+use emorizugu_tests::damage::{undone, Field, FIELDS};
+use emorizugu_tests::desk::Desk;
+use emorizugu_tests::script::{self, Damage, Record};
+use emorizugu_tests::tally::Tally;
+use emorizugu_tests::worked::Month;
+
+/// The stores' lengths: four rows of values and a place more, five rows of the log.
+const LENT: Lengths = Lengths {
+    values: 9,
+    book: 324,
+    log: 20,
+};
+
+/// The calls of the month.
+const CALLS: [&[u64]; 16] = [
+    &[
+        1, 2, 10, 30, 150, 4, 1, 2, 3, 3, 3, 3, 3, 3, 3, 3, 3, 3, 3, 3, 3, 3,
+    ],
+    &[2, 1, 1, 1, 0, 0],
+    &[2, 256, 2, 1, 5, 0],
+    &[2, 3, 4, 0, 6, 1],
+    &[4, 1, 5, 3, 100, 200],
+    &[4, 256, 7, 10, 30, 40],
+    &[4, 256, 9, 11, 31, 41],
+    &[4, 1, 6, 12, 101, 201],
+    &[6, 1, 5, 12],
+    &[5, 256, 9, 1, 30],
+    &[7, 1, 5],
+    &[5, 1, 6, 1, 31],
+    &[9, 1, 31],
+    &[7, 2, 5],
+    &[9, 2, 151],
+    &[8, 1, 6],
+];
+
+fn call(numbers: &[u64]) -> Call {
+    Call::of(numbers[0], &numbers[1..]).expect("a call")
+}
+
+fn month() -> Trial {
+    Trial {
+        places: LENT,
+        seed: 11,
+        steps: CALLS.iter().map(|c| Step::Call(call(c), LENT)).collect(),
+    }
+}
+
+/// One call of each sort, such as the desk accepts at one time or another; and a second opening.
+fn every_call(month: &Month) -> Vec<(Call, Lengths)> {
+    let day = month.day;
+    let calls: [&[u64]; 9] = [
+        CALLS[0],
+        &[2, 9, 3, 1, 0, day],
+        &[3, 3, day],
+        &[4, 256, 12, day, 1, 2],
+        &[5, 256, 9, 1, day],
+        &[6, 0, 7, day],
+        &[7, 1, 5],
+        &[8, 1, 5],
+        &[9, 1, 400],
+    ];
+    calls.iter().map(|c| (call(c), LENT)).collect()
+}
+
+/// The desk after the first calls of the month.
+fn desk(calls: usize) -> Desk {
+    let mut desk = Desk::new();
+    for numbers in &CALLS[..calls] {
+        desk.call(&call(numbers), LENT);
+    }
+    desk
+}
+
+/// A field damaged after each call of the month in turn. Outside its limits: every call is answered 1, an opening 6.
+/// Inside: a status and a show are not answered 1. The damage is undone, and the month goes on as without it.
+fn limits(name: &str) {
+    let field = Field::named(name);
+    let position = FIELDS.iter().position(|f| f.name == name);
+    let (mut tally, mut inside) = (Tally::new(), Tally::new());
+    for calls in 1..=CALLS.len() {
+        let desk = desk(calls);
+        let opened = desk.month().expect("an open desk");
+        let limits = (field.limits)(&opened);
+        for choice in 0..limits.outside.len() {
+            let damaged = Step::Damaged {
+                field: position.expect("a field"),
+                choice,
+                calls: every_call(&opened),
+            };
+            let mut trial = month();
+            trial.steps.insert(calls, damaged);
+            compare(&trial, &mut tally);
+        }
+        for damages in &limits.inside {
+            for answer in answers_inside(&opened, calls, damages) {
+                inside.add("inside the limits", answer);
+            }
+        }
+    }
+    if tally.all(name) > 0 {
+        tally.print_one(name);
+        tally.demand(field.name, &[1, 6], 1);
+    }
+    inside.print();
+    assert!(inside.all("inside the limits") > 0);
+}
+
+/// The answers to a status and a show of a desk that is damaged after so many calls. The answers of the others and the
+/// stores are as without the damage.
+fn answers_inside(opened: &Month, calls: usize, damages: &[Damage]) -> [u64; 2] {
+    let trial = month();
+    let plain = expected(&trial, &mut Tally::new());
+    let asked = [
+        Call::Status {
+            point: 200,
+            version: 77,
+        },
+        Call::Show { run: 1, group: 5 },
+    ];
+    let damage = |damage: &Damage| Record::Damage(*damage);
+    let block = damages.iter().map(damage);
+    let block = block.chain(asked.map(|call| Record::Call(call, LENT)));
+    let undone = damages.iter().map(|d| Record::Damage(undone(opened, d)));
+    let block: Vec<Record> = block.chain(undone).collect();
+    let mut records = plain.records.clone();
+    records.splice(calls..calls, block);
+    let mut linked = script::run(&records, trial.stores());
+    let status = linked.answers.remove(calls);
+    let show = linked.answers.remove(calls);
+    assert_eq!(linked, plain.outcome, "after {calls} calls and {damages:?}");
+    for answer in [&status, &show] {
+        assert_ne!(answer[0], 1, "after {calls} calls and {damages:?}");
+    }
+    [status[0], show[0]]
+}
+
+/// A test for each field.
+macro_rules! fields {
+    ($($test:ident $name:literal)*) => {
+        $(
+            #[test]
+            fn $test() {
+                limits($name);
+            }
+        )*
+
+        #[test]
+        fn every_field_has_its_test() {
+            let names = FIELDS.map(|field| field.name);
+            assert_eq!(names.as_slice(), [$($name),*]);
+        }
+    };
+}
+
+fields! {
+    quarters "quarters"
+    first_delivery "first delivery"
+    clearing "clearing"
+    correction "correction"
+    length_of_values "length of values"
+    length_of_book "length of book"
+    length_of_log "length of log"
+    day "day"
+    delta_group "delta group"
+    version_count "version count"
+    log_rows_used "log rows used"
+    run_settled "run settled"
+    points_day "point's day"
+    points_kind "point's kind"
+    points_area "point's area"
+    points_partner "point's partner"
+    versions_number "version's number"
+    versions_point "version's point"
+    versions_row "version's row"
+    versions_status "version's status"
+    unused_version "unused version"
+}
+
+/// A desk without quarter hours is not open, whatever else it holds: a refused opening leaves it as it is, and an
+/// accepted one makes it wholly new.
+#[test]
+fn no_quarters() {
+    let set = |which, place, to| Record::Damage(Damage { which, place, to });
+    let refused = call(&{
+        let mut fields = CALLS[0].to_vec();
+        fields[2] = 0;
+        fields
+    });
+    for calls in 1..=CALLS.len() {
+        let desk = desk(calls);
+        let opened = desk.month().expect("an open desk");
+        let trial = month();
+        let plain = expected(&trial, &mut Tally::new());
+        let others = every_call(&opened).split_off(1);
+        let others: Vec<Record> = others
+            .into_iter()
+            .map(|(c, l)| Record::Call(c, l))
+            .collect();
+        let damaged = [
+            vec![set(1, 0, [0; 4])],
+            vec![set(1, 0, [0; 4]), set(6, 0, [0; 4])],
+        ];
+        for damage in damaged {
+            let back = [set(1, 0, [2, 0, 0, 0]), set(6, 0, [324, 0, 0, 0])];
+            let block = damage.into_iter().chain(others.iter().cloned());
+            let block = block
+                .chain([Record::Call(refused.clone(), LENT)])
+                .chain(back);
+            let mut records = plain.records.clone();
+            records.splice(calls..calls, block);
+            let mut linked = script::run(&records, trial.stores());
+            let answers: Vec<Vec<u64>> = linked.answers.drain(calls..calls + 9).collect();
+            for (answer, call) in answers.iter().zip(&others) {
+                assert_eq!(answer[0], 1, "{call} after {calls} calls");
+            }
+            assert_eq!(answers[8], [4], "a refused opening after {calls} calls");
+            assert_eq!(linked, plain.outcome, "after {calls} calls");
+        }
+
+        let garbage = (2..=16).map(|which| set(which, 3, [u64::MAX; 4]));
+        let mut records = plain.records[..calls].to_vec();
+        records.extend(garbage.chain([set(1, 0, [0; 4])]));
+        records.extend(plain.records.iter().cloned());
+        let anew = script::run(&records, trial.stores());
+        assert_eq!(anew.answers[calls..], plain.outcome.answers);
+        assert_eq!(anew.stores.book, plain.outcome.stores.book);
+        assert_eq!(anew.stores.log, plain.outcome.stores.log);
+        assert_eq!(anew.stores.values, plain.outcome.stores.values);
+    }
+}
