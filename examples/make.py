@@ -1,14 +1,28 @@
 #!/usr/bin/env python3
 """Writes the files that the host example is run on, to the folder given or to its own.
 
-Message files: `example.msg` is the one that document 01 writes out; the others are empty or damaged, and each is
-refused for one cause. Books, both of two quarter hours: `month.book` has the figures of document 01's sample month,
+Message files: `example.msg` is the one that document 01 writes out, `month.msg` its sample month, packed from
+`month.calls`; the others are empty or damaged, and each is refused for one cause. Books, both of two quarter hours: `month.book` has the figures of document 01's sample month,
 `edges.book` figures at both ends of the 64-bit range, and `short.book` lacks its last byte.
 """
 
 import pathlib
 import struct
 import sys
+
+sys.dont_write_bytecode = True
+from message import pack
+
+OWN = pathlib.Path(__file__).resolve().parent
+
+
+def packed(name):
+    """The message file of a text beside this script."""
+    file, complaints = pack((OWN / name).read_text("utf-8"))
+    if complaints:
+        sys.exit("\n".join(f"{name}: {complaint}" for complaint in complaints))
+    return file
+
 
 # Open, activate, and one submission sent twice.
 OPEN = bytes.fromhex("01 01 0A 1E 96 01 04 01 02") + 14 * b"\x03"
@@ -18,6 +32,7 @@ EXAMPLE = OPEN + ACTIVATE + SUBMIT + SUBMIT
 
 MESSAGES = {
     "example.msg": EXAMPLE,
+    "month.msg": packed("month.calls"),
     "empty.msg": b"",
     # 31: the second submission lacks its last byte.
     "cut.msg": EXAMPLE[:-1],
@@ -81,8 +96,7 @@ BOOKS = {
 
 
 def main():
-    own = pathlib.Path(__file__).resolve().parent
-    folder = pathlib.Path(sys.argv[1]) if len(sys.argv) > 1 else own
+    folder = pathlib.Path(sys.argv[1]) if len(sys.argv) > 1 else OWN
     for name, content in {**MESSAGES, **BOOKS}.items():
         (folder / name).write_bytes(content)
 
