@@ -1,0 +1,3 @@
+mod Pages
+mod Texts
+mod Totals

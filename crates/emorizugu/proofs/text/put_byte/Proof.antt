@@ -1,0 +1,26 @@
+-- `put_byte` meets its contract. Assumes nothing.
+use native.Mathlib.Omega.{arith}
+use native.Mathlib.Numerals.{add-one}
+use lib.Seq.{take-suc-set}
+use borrow.Author.Needs.{needs}
+use Rattle.emorizugu.proofs.text.put_byte.Statement.{statement}
+use Rattle.emorizugu.proofs.text.put_byte.Tie as tie
+
+slice-write-line : tie.Need-slice-write-line
+slice-write-line c = search needs
+
+add-result : tie.Need-add-result
+add-result c = search needs
+
+same-length : tie.Need-same-length
+same-length c = search needs
+
+returns : tie.Need-returns
+returns c =
+    record {
+      holds = rw add-one (take-suc-set (c .args .line .now) (c .args .at) (c .args .b) (omega arith));
+      few = search needs;
+    }
+
+pub put-byte-spec : {M : Type 1} → statement M
+put-byte-spec = tie.close (tie.spec slice-write-line add-result same-length returns)

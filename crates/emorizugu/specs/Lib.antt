@@ -1,0 +1,4 @@
+pub mod Figures
+pub mod Line
+pub mod Page
+pub mod Text
