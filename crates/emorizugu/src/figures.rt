@@ -1,10 +1,13 @@
 // The figures that the program prints, out of the book.
 use book::place::row_start;
 use quantity::WattHours;
+use quantity::limits;
 use quantity::word;
 ghost use mathlib.Core.Path.{_≡_};
 ghost use Prim.Native.Nat.{_≤_};
 ghost use Rattle.emorizugu.specs.Figures.{IsPlace, figureOf, totalOf};
+
+pub const GROUPS: usize = limits::GROUPS as usize;
 
 pub fn figure(book: &[u64], quarters: usize, run: usize, group: usize, quarter: usize) -> WattHours
     requires { ⌜ IsPlace quarters run quarter × (1 ≤ group) × (group ≤ 64) ⌝ }
@@ -24,7 +27,7 @@ pub fn total(book: &[u64], quarters: usize, run: usize, quarter: usize) -> WattH
 {
     let mut sum = WattHours(0);
     let mut group = 0;
-    while group < 64 {
+    while group < GROUPS {
         group += 1;
         sum = word::sum(sum, figure(book, quarters, run, group, quarter));
     }

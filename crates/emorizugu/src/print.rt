@@ -1,12 +1,12 @@
 // The program's output, part by part.
 use crate::figures;
+use crate::figures::GROUPS;
 use crate::line;
 use crate::page;
 use crate::page::Pen;
 use message::FileCause;
 use message::cause::number_of;
 use quantity::WattHours;
-use quantity::limits::GROUPS;
 ghost use Prim.Native.Nat.{_≤_};
 ghost use Rattle.emorizugu.specs.Figures.{IsPlace};
 
@@ -73,7 +73,7 @@ fn print_quarter(
 {
     let mut now = pen;
     let mut group: usize = 0;
-    while group < 64 {
+    while group < GROUPS {
         group += 1;
         let figure = figures::figure(book, quarters, run, group, quarter);
         now = print_figure(page, now, run, quarter, group, figure);

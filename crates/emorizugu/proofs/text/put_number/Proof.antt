@@ -2,7 +2,7 @@
 use Prim.Native.Nat.{ℕ, _≤_}
 use mathlib.Core.Path.{_≡_, sym, ap, _∙_}
 use mathlib.Core.List.{List, _++_}
-use lib.ListN.{length, take, length-take, length-drop}
+use lib.ListN.{take, length-take, length-drop}
 use Rattle.emorizugu.specs.Text.{decimal}
 use Rattle.emorizugu.proofs.Texts.{spelled, few-digits, copied}
 use native.Mathlib.Omega.{arith}
