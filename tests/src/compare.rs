@@ -149,7 +149,7 @@ fn questions(desk: &Desk) -> Vec<(Record, u64)> {
 
 /// What the stores hold after the desk's list: used rows of values and log, and every figure of the book; the rest as
 /// it was. The groups' figures add up to the outside exchange.
-fn stores_after(desk: &Desk, mut stores: Stores) -> Stores {
+pub fn stores_after(desk: &Desk, mut stores: Stores) -> Stores {
     let Some(month) = desk.month() else {
         return stores;
     };
@@ -208,17 +208,16 @@ fn differs(trial: &Trial) -> bool {
     difference(trial, &expected(trial, &mut Tally::new())).is_some()
 }
 
-/// Leaves out steps, many at a time and then one at a time, and calls to a damaged desk, while the rest differs.
-pub fn shortest(mut trial: Trial) -> Trial {
-    let mut size = trial.steps.len();
+/// Leaves out items of a list, many at a time and then one at a time, while the rest differs.
+pub fn shortest_list<T: Clone>(mut list: Vec<T>, differs: impl Fn(&[T]) -> bool) -> Vec<T> {
+    let mut size = list.len();
     while size > 0 {
         let (mut at, mut dropped) = (0, false);
-        while at < trial.steps.len() {
-            let mut shorter = trial.clone();
-            let end = shorter.steps.len().min(at + size);
-            shorter.steps.drain(at..end);
+        while at < list.len() {
+            let mut shorter = list.clone();
+            shorter.drain(at..list.len().min(at + size));
             if differs(&shorter) {
-                (trial, dropped) = (shorter, true);
+                (list, dropped) = (shorter, true);
             } else {
                 at += size;
             }
@@ -227,6 +226,18 @@ pub fn shortest(mut trial: Trial) -> Trial {
             size /= 2;
         }
     }
+    list
+}
+
+/// Leaves out steps, and calls to a damaged desk, while the rest differs.
+pub fn shortest(mut trial: Trial) -> Trial {
+    let steps = std::mem::take(&mut trial.steps);
+    trial.steps = shortest_list(steps, |steps| {
+        differs(&Trial {
+            steps: steps.to_vec(),
+            ..trial
+        })
+    });
     for at in 0..trial.steps.len() {
         shorten_damaged(&mut trial, at);
     }

@@ -111,6 +111,7 @@ pub fn count(random: &mut Random) -> usize {
 }
 
 /// A call that a file can carry: its kind, its fields and a submission's energies as words.
+#[derive(Clone, Debug)]
 pub struct Call {
     /// 1 to 7.
     pub kind: u64,
@@ -207,6 +208,12 @@ impl File {
             let sent = if word >> 63 == 0 { doubled } else { !doubled };
             self.push(Role::Energy, sent);
         }
+    }
+
+    fn one(call: &Call) -> File {
+        let mut file = File::default();
+        file.append(call);
+        file
     }
 
     fn of(random: &mut Random, calls: usize) -> File {
@@ -390,7 +397,7 @@ fn cut(random: &mut Random, file: &File) -> (Vec<u8>, Verdict) {
 }
 
 /// One to three bytes changed.
-fn flipped(random: &mut Random, mut bytes: Vec<u8>) -> Vec<u8> {
+pub(crate) fn flipped(random: &mut Random, mut bytes: Vec<u8>) -> Vec<u8> {
     for _ in 0..1 + random.below(3) {
         let at = random.below(bytes.len());
         bytes[at] ^= if random.once_in(4) {
@@ -403,7 +410,7 @@ fn flipped(random: &mut Random, mut bytes: Vec<u8>) -> Vec<u8> {
 }
 
 /// Up to forty bytes, mostly small.
-fn noise(random: &mut Random) -> Vec<u8> {
+pub(crate) fn noise(random: &mut Random) -> Vec<u8> {
     let bytes = random.below(41);
     let mut byte = || {
         if random.once_in(4) {
@@ -418,13 +425,28 @@ fn noise(random: &mut Random) -> Vec<u8> {
 /// A call, then a submission of 2,980 energies or one less.
 fn full(random: &mut Random) -> Vec<u8> {
     let mut file = File::of(random, 1);
+    file.append(&full_call(random));
+    file.bytes
+}
+
+/// A submission of 2,980 energies or one less.
+pub(crate) fn full_call(random: &mut Random) -> Call {
     let energies = MOST_ENERGIES - random.below(2);
-    file.append(&Call {
+    Call {
         kind: SUBMIT,
         fields: (0..3).map(|_| number(random)).collect(),
         series: (0..energies).map(|_| energy(random)).collect(),
-    });
-    file.bytes
+    }
+}
+
+/// A call's bytes.
+pub(crate) fn bytes(call: &Call) -> Vec<u8> {
+    File::one(call).bytes
+}
+
+/// A call's bytes with one of its numbers in another form, as in a file of the shape. Only a submission has a count.
+pub(crate) fn bytes_changed(random: &mut Random, call: &Call, shape: Shape) -> Vec<u8> {
+    number_changed(random, shape, &File::one(call)).0
 }
 
 /// A book for so many quarter hours: figures at the ends of the 64-bit range, about 0, and any others.

@@ -7,11 +7,14 @@
 //! | `figure` | second implementation: the figure in a book of bytes |
 //! | `call` | the nine calls and their fields |
 //! | `desk`, `worked` | second implementation: the plain desk, and what its list of calls says |
+//! | `replay` | second implementation: a whole file through the plain desk |
+//! | `program` | second implementation: what the desk program prints; and a run of the program |
 //! | `numbers` | the message file's answers as numbers in slices, the form in which `drive` gives them |
 //! | `linked` | the functions of the static libraries, each behind a safe function |
 //! | `generator` | message files, calls and books from a seed |
 //! | `script` | calls as numbers in a slice, the form in which `drive` takes them |
 //! | `months`, `pick` | months of calls from a seed, and the choice of each call |
+//! | `files` | message files of months, whole and spoiled, and the calls of a file as text |
 //! | `damage` | the fields of the desk's state with their limits |
 //! | `compare` | a month with both desks, and the shortest list of calls where they differ |
 //! | `counts` | which cases the compared calls were |
@@ -25,12 +28,15 @@ pub mod counts;
 pub mod damage;
 pub mod desk;
 pub mod figure;
+pub mod files;
 pub mod generator;
 pub mod linked;
 pub mod message;
 pub mod months;
 pub mod numbers;
 mod pick;
+pub mod program;
+pub mod replay;
 pub mod script;
 pub mod tally;
 pub mod worked;

@@ -20,6 +20,22 @@ extern "C" {
         group: u64,
         quarter: u64,
     ) -> u64;
+    fn emorizugu_replay(
+        file: *const u8,
+        len: usize,
+        values: *mut u64,
+        values_len: usize,
+        book: *mut u64,
+        book_len: usize,
+        log: *mut u64,
+        log_len: usize,
+        series: *mut u64,
+        series_len: usize,
+        answers: *mut u64,
+        answers_len: usize,
+        report: *mut u64,
+        report_len: usize,
+    ) -> u64;
     fn drive_read(
         file: *const u8,
         len: usize,
@@ -72,6 +88,36 @@ pub fn figure_refusal(book: &[u8], quarters: u64, run: u64, group: u64, quarter:
 /// `emorizugu_figure`.
 pub fn figure(book: &[u8], quarters: u64, run: u64, group: u64, quarter: u64) -> u64 {
     unsafe { emorizugu_figure(book.as_ptr(), book.len(), quarters, run, group, quarter) }
+}
+
+/// `emorizugu_replay`.
+pub fn replay(
+    file: &[u8],
+    values: &mut [u64],
+    book: &mut [u64],
+    log: &mut [u64],
+    series: &mut [u64],
+    answers: &mut [u64],
+    report: &mut [u64],
+) -> u64 {
+    unsafe {
+        emorizugu_replay(
+            file.as_ptr(),
+            file.len(),
+            values.as_mut_ptr(),
+            values.len(),
+            book.as_mut_ptr(),
+            book.len(),
+            log.as_mut_ptr(),
+            log.len(),
+            series.as_mut_ptr(),
+            series.len(),
+            answers.as_mut_ptr(),
+            answers.len(),
+            report.as_mut_ptr(),
+            report.len(),
+        )
+    }
 }
 
 /// `drive_read`.

@@ -55,6 +55,13 @@ pub const ENDS: [u64; 27] = [
 /// What is added to a right number, so that its lower bits stay right.
 pub const BEYOND: [u64; 4] = [1 << 8, 1 << 16, 1 << 32, 1 << 63];
 
+/// Places of a month's stores beyond the lengths of its opening.
+pub const SPARE: Lengths = Lengths {
+    values: 5,
+    book: 165,
+    log: 8,
+};
+
 /// What the calls of a month are chosen from.
 pub(crate) struct Plan {
     pub(crate) opening: Call,
@@ -175,9 +182,9 @@ fn plan(random: &mut Random, size: Size) -> Plan {
         quarters,
         lengths,
         places: Lengths {
-            values: lengths.values + 5,
-            book: lengths.book + 165,
-            log: lengths.log + 8,
+            values: lengths.values + SPARE.values,
+            book: lengths.book + SPARE.book,
+            log: lengths.log + SPARE.log,
         },
         size,
         days: days(random, size, first, clearing, correction),

@@ -23,6 +23,11 @@ impl Tally {
         counts.map(|(_, count)| count).sum()
     }
 
+    /// How often `what` was compared with this answer.
+    pub fn count(&self, what: &'static str, answer: u64) -> u64 {
+        self.0.get(&(what, answer)).copied().unwrap_or(0)
+    }
+
     /// Prints a line for each thing compared, with the count of each answer.
     pub fn print(&self) {
         let mut names: Vec<&str> = self.0.keys().map(|(what, _)| *what).collect();
@@ -48,7 +53,7 @@ impl Tally {
     /// Demands that `what` had each of these answers at least `least` times, and no others.
     pub fn demand(&self, what: &'static str, answers: &[u64], least: u64) {
         for &answer in answers {
-            let count = self.0.get(&(what, answer)).copied().unwrap_or(0);
+            let count = self.count(what, answer);
             assert!(count >= least, "{what}: answer {answer} only {count} times");
         }
         for (name, answer) in self.0.keys() {
