@@ -1,4 +1,28 @@
-//! Two functions timed side by side.
+//! What the benches need: functions timed side by side, months as message files, two desks in plain Rust.
+//!
+//! | module | what it is |
+//! |---|---|
+//! | `linked` | the host's entry that replays a message file |
+//! | `amending` | a desk that amends its state and the book |
+//! | `plain` | a desk that keeps the accepted calls and works the book out anew at each |
+//! | `cause`, `series`, `row` | what the two share: causes and ranges, the table of series, a row of the book |
+//! | `buffers` | what a replay is lent |
+//! | `compare` | desks compared on a file |
+//! | `months` | message files |
+//! | `clock` | the processor time of a function |
+//! | `stack` | the stack that a function uses |
+
+pub mod amending;
+pub mod buffers;
+pub mod cause;
+pub mod clock;
+pub mod compare;
+pub mod linked;
+pub mod months;
+pub mod plain;
+pub mod row;
+pub mod series;
+pub mod stack;
 
 use std::time::Instant;
 

@@ -7,8 +7,22 @@ use std::hint::black_box;
 
 extern "C" {
     fn drive_add_row(row: *mut u64, length: usize, series: *const u64, series_length: usize);
-    fn drive_replace_row(row: *mut u64, length: usize, old: *const u64, old_length: usize, new: *const u64, new_length: usize);
-    fn drive_replace_row_twice(row: *mut u64, length: usize, old: *const u64, old_length: usize, new: *const u64, new_length: usize);
+    fn drive_replace_row(
+        row: *mut u64,
+        length: usize,
+        old: *const u64,
+        old_length: usize,
+        new: *const u64,
+        new_length: usize,
+    );
+    fn drive_replace_row_twice(
+        row: *mut u64,
+        length: usize,
+        old: *const u64,
+        old_length: usize,
+        new: *const u64,
+        new_length: usize,
+    );
 }
 
 const FIGURES: usize = 2_980;
@@ -20,11 +34,29 @@ fn linked_add_row(row: &mut [u64], series: &[u64]) {
 }
 
 fn replace_row(row: &mut [u64], old: &[u64], new: &[u64]) {
-    unsafe { drive_replace_row(row.as_mut_ptr(), row.len(), old.as_ptr(), old.len(), new.as_ptr(), new.len()) }
+    unsafe {
+        drive_replace_row(
+            row.as_mut_ptr(),
+            row.len(),
+            old.as_ptr(),
+            old.len(),
+            new.as_ptr(),
+            new.len(),
+        )
+    }
 }
 
 fn replace_row_twice(row: &mut [u64], old: &[u64], new: &[u64]) {
-    unsafe { drive_replace_row_twice(row.as_mut_ptr(), row.len(), old.as_ptr(), old.len(), new.as_ptr(), new.len()) }
+    unsafe {
+        drive_replace_row_twice(
+            row.as_mut_ptr(),
+            row.len(),
+            old.as_ptr(),
+            old.len(),
+            new.as_ptr(),
+            new.len(),
+        )
+    }
 }
 
 #[inline(never)]
@@ -52,8 +84,20 @@ fn main() {
 
     let mut once_row = vec![0; FIGURES];
     let mut twice_row = vec![0; FIGURES];
-    let once = || replace_row(black_box(&mut once_row), black_box(&series), black_box(&new));
-    let twice = || replace_row_twice(black_box(&mut twice_row), black_box(&series), black_box(&new));
+    let once = || {
+        replace_row(
+            black_box(&mut once_row),
+            black_box(&series),
+            black_box(&new),
+        )
+    };
+    let twice = || {
+        replace_row_twice(
+            black_box(&mut twice_row),
+            black_box(&series),
+            black_box(&new),
+        )
+    };
     let (once, twice) = best(ROUNDS, CALLS, once, twice);
     assert_eq!(once_row, twice_row, "both rows after as many replacements");
     println!(

@@ -1,0 +1,599 @@
+//! The amending desk: it amends its state, the book and the log through `&mut`, and allocates nothing.
+//!
+//! Each call makes the checks of the table in their order. Its first one, the limits of the state, is made on every call:
+//! one walk over the points and one over the versions held, which find out all else that a call asks of them.
+
+use crate::buffers::{lent, Buffers, REPORT};
+use crate::cause::{
+    are_deadlines, are_energies, is_point, is_version, refuse_if, Cause, LAST_DAY, LOG_ROW, POINTS,
+    QUARTERS, VERSIONS,
+};
+use crate::row;
+use crate::series::{
+    group_row, is_group, is_series, sides, Side, AREAS, BOOK_ROWS, DELTAS, GROUPS, ROWS,
+};
+use emorizugu_tests::message::{self, Call};
+
+/// An active point.
+#[derive(Clone, Copy)]
+struct Active {
+    since: u16,
+    kind: u8,
+    area: u8,
+    partner: u8,
+}
+
+impl Active {
+    fn series(self) -> (u64, u64, u64) {
+        (self.kind.into(), self.area.into(), self.partner.into())
+    }
+
+    fn fits(self) -> bool {
+        let (kind, area, partner) = self.series();
+        u64::from(self.since) <= LAST_DAY && is_series(kind, area, partner)
+    }
+
+    fn sides(self) -> [Side; 2] {
+        let (kind, area, partner) = self.series();
+        sides(kind, area, partner)
+    }
+}
+
+/// The status of a version.
+#[derive(Clone, Copy, PartialEq, Eq)]
+enum Status {
+    Check,
+    Settlement,
+    Settled,
+    Correction,
+    CorrectionSettled,
+}
+
+impl Status {
+    /// The run whose selection, or whose own, a version of this status can be.
+    fn run(self) -> Option<Run> {
+        match self {
+            Status::Check => None,
+            Status::Settlement | Status::Settled => Some(Run::First),
+            Status::Correction | Status::CorrectionSettled => Some(Run::Second),
+        }
+    }
+}
+
+/// A run.
+#[derive(Clone, Copy, PartialEq, Eq)]
+enum Run {
+    First = 1,
+    Second = 2,
+}
+
+/// A version held: its number, point, row of values and status.
+#[derive(Clone, Copy)]
+struct Version {
+    number: u64,
+    point: u16,
+    row: u16,
+    status: Status,
+}
+
+impl Version {
+    /// Past the count, where nothing is looked at.
+    const NONE: Version = Version {
+        number: 0,
+        point: 0,
+        row: 0,
+        status: Status::Check,
+    };
+
+    fn fits(&self, rows: u64) -> bool {
+        is_point(self.point.into()) && is_version(self.number) && u64::from(self.row) < rows
+    }
+}
+
+/// What the opening fixes; no quarter hours in an unopened desk.
+#[derive(Clone, Copy)]
+struct Opening {
+    quarters: u64,
+    deadlines: [u64; 3],
+    values: usize,
+    book: usize,
+    log: usize,
+}
+
+impl Opening {
+    fn fits(&self) -> bool {
+        (1..=QUARTERS).contains(&self.quarters)
+            && are_deadlines(self.deadlines)
+            && self.book as u64 == BOOK_ROWS as u64 * self.quarters
+            && self.log.is_multiple_of(LOG_ROW)
+    }
+}
+
+/// A version of the table that is selected.
+#[derive(Clone, Copy)]
+struct Pick {
+    at: usize,
+    number: u64,
+}
+
+/// Whether a version is picked in the place of the highest one so far.
+fn is_higher(pick: Option<Pick>, number: u64) -> bool {
+    pick.is_none_or(|pick| pick.number < number)
+}
+
+/// What the two walks find of a point, a version and a series.
+struct Look {
+    /// Whether an active point has the series.
+    taken: bool,
+    /// Where the version stands.
+    held: Option<usize>,
+    /// The point's highest version, or 0.
+    highest: u64,
+    /// Run 1's selection for the point.
+    first: Option<Pick>,
+    /// Run 2's own.
+    second: Option<Pick>,
+}
+
+/// The stores lent to a call.
+struct Stores<'a> {
+    values: &'a mut [u64],
+    book: &'a mut [u64],
+    log: &'a mut [u64],
+}
+
+/// The desk's state.
+struct Desk {
+    opening: Opening,
+    day: u64,
+    groups: [u64; DELTAS],
+    used: usize,
+    settled: [bool; 2],
+    points: [Option<Active>; POINTS],
+    count: usize,
+    versions: [Version; VERSIONS],
+}
+
+impl Desk {
+    fn opened(opening: Opening, groups: [u64; DELTAS]) -> Desk {
+        Desk {
+            opening,
+            day: 0,
+            groups,
+            used: 0,
+            settled: [false; 2],
+            points: [None; POINTS],
+            count: 0,
+            versions: [Version::NONE; VERSIONS],
+        }
+    }
+
+    fn fresh() -> Desk {
+        let unopened = Opening {
+            quarters: 0,
+            deadlines: [0; 3],
+            values: 0,
+            book: 0,
+            log: 0,
+        };
+        Desk::opened(unopened, [0; DELTAS])
+    }
+
+    /// The limits of all but the two tables.
+    fn frame_fits(&self) -> bool {
+        let Opening {
+            quarters,
+            values,
+            log,
+            ..
+        } = self.opening;
+        self.opening.fits()
+            && self.day <= LAST_DAY
+            && self.groups.iter().all(|&group| is_group(group))
+            && self.count <= VERSIONS
+            && self.count * quarters as usize <= values
+            && self.used <= log / LOG_ROW
+    }
+
+    /// The limits of the state, with what the call asks of the two tables.
+    fn look(&self, point: u64, number: u64, series: (u64, u64, u64)) -> Result<Look, Cause> {
+        refuse_if(!self.frame_fits(), Cause::NotOpen)?;
+        let mut fit = true;
+        let mut look = Look {
+            taken: false,
+            held: None,
+            highest: 0,
+            first: None,
+            second: None,
+        };
+        for active in self.points.iter().flatten() {
+            fit &= active.fits();
+            look.taken |= active.series() == series;
+        }
+        let rows = self.opening.values as u64 / self.opening.quarters;
+        for (at, version) in self.versions[..self.count].iter().enumerate() {
+            fit &= version.fits(rows);
+            if u64::from(version.point) == point {
+                look.meet(at, version, number);
+            }
+        }
+        refuse_if(!fit, Cause::NotOpen)?;
+        Ok(look)
+    }
+
+    fn point(&self, point: u64) -> Option<Active> {
+        self.points[point as usize - 1]
+    }
+
+    fn open(&mut self, fields: &[u64], stores: &mut Stores) -> Result<(), Cause> {
+        refuse_if(self.opening.quarters != 0, Cause::OpenAgain)?;
+        let opening = Opening {
+            quarters: fields[0],
+            deadlines: [fields[1], fields[2], fields[3]],
+            values: stores.values.len(),
+            book: stores.book.len(),
+            log: stores.log.len(),
+        };
+        let mut groups = [0; DELTAS];
+        groups.copy_from_slice(&fields[4..]);
+        let fits = opening.fits() && groups.iter().all(|&group| is_group(group));
+        refuse_if(!fits, Cause::BadOpening)?;
+        stores.book.fill(0);
+        *self = Desk::opened(opening, groups);
+        Ok(())
+    }
+
+    fn activate(
+        &mut self,
+        point: u64,
+        (kind, area, partner): (u64, u64, u64),
+        day: u64,
+    ) -> Result<(), Cause> {
+        let look = self.look(point, 0, (kind, area, partner))?;
+        let fits = is_point(point) && is_series(kind, area, partner) && day <= LAST_DAY;
+        refuse_if(!fits, Cause::BadField)?;
+        self.in_time(day)?;
+        refuse_if(self.point(point).is_some(), Cause::PointActive)?;
+        refuse_if(look.taken, Cause::SameSeries)?;
+        self.points[point as usize - 1] = Some(Active {
+            since: day as u16,
+            kind: kind as u8,
+            area: area as u8,
+            partner: partner as u8,
+        });
+        self.day = day;
+        Ok(())
+    }
+
+    fn deactivate(&mut self, point: u64, day: u64) -> Result<(), Cause> {
+        let look = self.look(point, 0, (0, 0, 0))?;
+        refuse_if(!(is_point(point) && day <= LAST_DAY), Cause::BadField)?;
+        self.in_time(day)?;
+        refuse_if(self.point(point).is_none(), Cause::NotActive)?;
+        refuse_if(look.highest != 0, Cause::HasVersion)?;
+        self.points[point as usize - 1] = None;
+        self.day = day;
+        Ok(())
+    }
+
+    fn submit(
+        &mut self,
+        point: u64,
+        number: u64,
+        day: u64,
+        series: &[u64],
+        stores: &mut Stores,
+    ) -> Result<(), Cause> {
+        let look = self.look(point, number, (0, 0, 0))?;
+        self.same_lengths(stores)?;
+        let quarters = self.opening.quarters as usize;
+        let fits = is_point(point)
+            && is_version(number)
+            && day <= LAST_DAY
+            && series.len() == quarters
+            && are_energies(series);
+        refuse_if(!fits, Cause::BadField)?;
+        self.in_time(day)?;
+        let active = self.point(point).ok_or(Cause::NotActive)?;
+        refuse_if(day < u64::from(active.since) + 2, Cause::TooEarly)?;
+        refuse_if(look.held.is_some(), Cause::VersionPresent)?;
+        refuse_if(number < look.highest, Cause::VersionBelow)?;
+        let start = self.count * quarters;
+        let no_row = self.count == VERSIONS || start + quarters > stores.values.len();
+        refuse_if(no_row, Cause::NoRow)?;
+        let [first, _, _] = self.opening.deadlines;
+        let status = if day <= first {
+            Status::Settlement
+        } else {
+            Status::Check
+        };
+        let turn = look.turn(status, number);
+        self.room_for(turn)?;
+
+        stores.values[start..start + quarters].copy_from_slice(series);
+        let at = self.count;
+        self.versions[at] = Version {
+            number,
+            point: point as u16,
+            row: at as u16,
+            status,
+        };
+        self.count += 1;
+        self.day = day;
+        self.follow(turn, active, at, &look, stores);
+        Ok(())
+    }
+
+    fn notice(
+        &mut self,
+        point: u64,
+        number: u64,
+        verdict: u64,
+        day: u64,
+        stores: &mut Stores,
+    ) -> Result<(), Cause> {
+        let look = self.look(point, number, (0, 0, 0))?;
+        self.same_lengths(stores)?;
+        let fits = is_point(point) && is_version(number) && verdict <= 1 && day <= LAST_DAY;
+        refuse_if(!fits, Cause::BadField)?;
+        self.in_time(day)?;
+        let active = self.point(point).ok_or(Cause::NotActive)?;
+        let at = look.held.ok_or(Cause::NoVersion)?;
+        let before = self.versions[at].status;
+        refuse_if(before != Status::Check, Cause::NotCheckData)?;
+        let [_, clearing, _] = self.opening.deadlines;
+        let status = match verdict {
+            0 => before,
+            _ if day <= clearing => Status::Settlement,
+            _ => Status::Correction,
+        };
+        let turn = look.turn(status, number);
+        self.room_for(turn)?;
+
+        self.versions[at].status = status;
+        self.day = day;
+        self.follow(turn, active, at, &look, stores);
+        Ok(())
+    }
+
+    fn assign(
+        &mut self,
+        area: u64,
+        group: u64,
+        day: u64,
+        stores: &mut Stores,
+    ) -> Result<(), Cause> {
+        self.look(0, 0, (0, 0, 0))?;
+        refuse_if(stores.book.len() != self.opening.book, Cause::WrongLength)?;
+        let fits = area <= AREAS && is_group(group) && day <= LAST_DAY;
+        refuse_if(!fits, Cause::BadField)?;
+        refuse_if(day < self.day, Cause::PastDay)?;
+        let [_, clearing, _] = self.opening.deadlines;
+        refuse_if(day > clearing, Cause::AfterClearing)?;
+
+        let quarters = self.opening.quarters as usize;
+        let before = self.groups[area as usize];
+        for run in stores.book.chunks_exact_mut(ROWS * quarters) {
+            let (groups, deltas) = run.split_at_mut(GROUPS as usize * quarters);
+            let delta = &deltas[area as usize * quarters..][..quarters];
+            row::subtract(
+                &mut groups[group_row(before) * quarters..][..quarters],
+                delta,
+            );
+            row::add(
+                &mut groups[group_row(group) * quarters..][..quarters],
+                delta,
+            );
+        }
+        self.groups[area as usize] = group;
+        self.day = day;
+        Ok(())
+    }
+
+    fn settle(&mut self, run: u64, day: u64) -> Result<(), Cause> {
+        self.look(0, 0, (0, 0, 0))?;
+        let run = match run {
+            1 => Run::First,
+            2 => Run::Second,
+            _ => return Err(Cause::BadField),
+        };
+        refuse_if(day > LAST_DAY, Cause::BadField)?;
+        refuse_if(day < self.day, Cause::PastDay)?;
+        let [_, clearing, correction] = self.opening.deadlines;
+        let (deadline, status) = match run {
+            Run::First => (clearing, Status::Settled),
+            Run::Second => (correction, Status::CorrectionSettled),
+        };
+        refuse_if(day <= deadline, Cause::SettleTooEarly)?;
+        refuse_if(self.settled[run as usize - 1], Cause::AlreadySettled)?;
+        let too_soon = run == Run::Second && !self.settled[0];
+        refuse_if(too_soon, Cause::FirstRunOpen)?;
+
+        let mut highest = [0; POINTS];
+        let versions = &mut self.versions[..self.count];
+        for version in versions.iter().filter(|v| v.status.run() == Some(run)) {
+            let highest = &mut highest[version.point as usize - 1];
+            *highest = version.number.max(*highest);
+        }
+        for version in versions {
+            let selected = version.number == highest[version.point as usize - 1];
+            if selected && version.status.run() == Some(run) {
+                version.status = status;
+            }
+        }
+        self.settled[run as usize - 1] = true;
+        self.day = day;
+        Ok(())
+    }
+
+    /// Causes 5 and 11.
+    fn in_time(&self, day: u64) -> Result<(), Cause> {
+        let [_, _, correction] = self.opening.deadlines;
+        refuse_if(day < self.day, Cause::PastDay)?;
+        refuse_if(day > correction, Cause::AfterCorrection)
+    }
+
+    /// Cause 2 for a call that takes all three stores.
+    fn same_lengths(&self, stores: &Stores) -> Result<(), Cause> {
+        let Opening {
+            values, book, log, ..
+        } = self.opening;
+        let lent = (stores.values.len(), stores.book.len(), stores.log.len());
+        refuse_if(lent != (values, book, log), Cause::WrongLength)
+    }
+
+    /// Cause 17.
+    fn room_for(&self, turn: Option<Run>) -> Result<(), Cause> {
+        let full = self.used == self.opening.log / LOG_ROW;
+        refuse_if(turn.is_some() && full, Cause::NoLogRow)
+    }
+
+    /// Book and log after a version became the selection of a run, or its own. Run 2 follows run 1 where it has none.
+    fn follow(
+        &mut self,
+        turn: Option<Run>,
+        active: Active,
+        at: usize,
+        look: &Look,
+        stores: &mut Stores,
+    ) {
+        let Some(run) = turn else {
+            return;
+        };
+        match (run, look.second) {
+            (Run::First, None) => {
+                self.amend(Run::First, active, look.first, at, stores);
+                self.amend(Run::Second, active, look.first, at, stores);
+            }
+            (Run::First, Some(_)) => self.amend(Run::First, active, look.first, at, stores),
+            (Run::Second, own) => self.amend(run, active, own.or(look.first), at, stores),
+        }
+        let Version { number, point, .. } = self.versions[at];
+        let row = [self.day, point.into(), run as u64, number];
+        stores.log[LOG_ROW * self.used..][..LOG_ROW].copy_from_slice(&row);
+        self.used += 1;
+    }
+
+    /// The rows of a run after another version of an active point is selected.
+    fn amend(&self, run: Run, active: Active, old: Option<Pick>, at: usize, stores: &mut Stores) {
+        let quarters = self.opening.quarters as usize;
+        let values = &*stores.values;
+        let series = |at: usize| {
+            let start = self.versions[at].row as usize * quarters;
+            &values[start..start + quarters]
+        };
+        let new = series(at);
+        let old = old.map(|pick| series(pick.at));
+        let book = &mut stores.book[(run as usize - 1) * ROWS * quarters..][..ROWS * quarters];
+        let mut post = |side: Side, out: Option<&[u64]>, into: Option<&[u64]>| {
+            for row in side.rows(&self.groups) {
+                row::change(&mut book[row * quarters..][..quarters], out, into);
+            }
+        };
+        let [to, from] = active.sides();
+        post(to, old, Some(new));
+        post(from, Some(new), old);
+    }
+
+    /// A call that was read, with its energies: 0, or the number of its refusal.
+    fn call(&mut self, call: &Call, series: &[u64], stores: &mut Stores) -> u64 {
+        let f = &call.fields;
+        let answer = match call.kind {
+            1 => self.open(f, stores),
+            2 => self.activate(f[0], (f[1], f[2], f[3]), f[4]),
+            3 => self.deactivate(f[0], f[1]),
+            4 => self.submit(f[0], f[1], f[2], series, stores),
+            5 => self.notice(f[0], f[1], f[2], f[3], stores),
+            6 => self.assign(f[0], f[1], f[2], stores),
+            _ => self.settle(f[0], f[1]),
+        };
+        answer.map_or_else(|cause| cause as u64, |()| 0)
+    }
+}
+
+impl Look {
+    /// A version of the point.
+    fn meet(&mut self, at: usize, version: &Version, number: u64) {
+        if version.number == number && self.held.is_none() {
+            self.held = Some(at);
+        }
+        self.highest = self.highest.max(version.number);
+        let pick = match version.status.run() {
+            None => return,
+            Some(Run::First) => &mut self.first,
+            Some(Run::Second) => &mut self.second,
+        };
+        if is_higher(*pick, version.number) {
+            let number = version.number;
+            *pick = Some(Pick { at, number });
+        }
+    }
+
+    /// The run whose selection, or whose own, changes to a version of this status and number.
+    fn turn(&self, status: Status, number: u64) -> Option<Run> {
+        status.run().filter(|run| {
+            let pick = match run {
+                Run::First => self.first,
+                Run::Second => self.second,
+            };
+            is_higher(pick, number)
+        })
+    }
+}
+
+/// A whole message file through a fresh desk: 0, or the number of the refusal that ended it.
+pub fn replay(file: &[u8], buffers: &mut Buffers) -> u64 {
+    let Buffers {
+        values,
+        book,
+        log,
+        series,
+        answers,
+        report,
+    } = buffers;
+    if report.len() < REPORT {
+        return 2;
+    }
+    let mut desk = Desk::fresh();
+    let mut at = 0;
+    let mut answered = 0;
+    let result = loop {
+        if answered == answers.len() && at < file.len() as u64 {
+            at = 0;
+            break message::Cause::Room.number();
+        }
+        let call = match message::read(file, at, series) {
+            Ok(Some(call)) => call,
+            Ok(None) => break 0,
+            Err(refusal) => break refusal.cause.number(),
+        };
+        let quarters = match call.kind {
+            1 => call.fields[0],
+            _ => desk.opening.quarters,
+        };
+        let lent = lent(book, quarters);
+        let mut stores = Stores {
+            values,
+            book: &mut book[..lent],
+            log,
+        };
+        answers[answered] = desk.call(&call, &series[..call.count], &mut stores);
+        answered += 1;
+        at = call.next;
+    };
+    let Desk {
+        opening,
+        used,
+        count,
+        ..
+    } = desk;
+    let told = [
+        answered as u64,
+        at,
+        opening.quarters,
+        used as u64,
+        count as u64,
+    ];
+    report[..REPORT].copy_from_slice(&told);
+    result
+}

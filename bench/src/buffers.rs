@@ -1,0 +1,61 @@
+//! What a replay of a message file is lent.
+
+use crate::series::BOOK_ROWS;
+
+/// Places of a report.
+pub const REPORT: usize = 5;
+
+/// The stores, the series buffer, and what the answers and the report are written to.
+#[derive(Clone)]
+pub struct Buffers {
+    /// The values.
+    pub values: Vec<u64>,
+    /// The book.
+    pub book: Vec<u64>,
+    /// The log.
+    pub log: Vec<u64>,
+    /// The energies of the submission that was read last.
+    pub series: Vec<u64>,
+    /// A place for each call's number.
+    pub answers: Vec<u64>,
+    /// Calls answered; the offset of the refused call, the file's length, or 0 where the answers are full; Q; log rows
+    /// used; versions held.
+    pub report: Vec<u64>,
+}
+
+impl Buffers {
+    /// Buffers for a month of so many quarter hours and a file of so many calls, each place holding `word`.
+    pub fn new(quarters: usize, versions: usize, calls: usize, word: u64) -> Buffers {
+        let places = |length| vec![word; length];
+        Buffers {
+            values: places(versions * quarters),
+            book: places(BOOK_ROWS * quarters),
+            log: places(4 * versions),
+            series: places(quarters),
+            answers: places(calls),
+            report: places(REPORT),
+        }
+    }
+
+    /// What a replay writes, by its name.
+    pub fn named(&self) -> [(&'static str, &[u64]); 6] {
+        [
+            ("answers", &self.answers),
+            ("report", &self.report),
+            ("log", &self.log),
+            ("series", &self.series),
+            ("values", &self.values),
+            ("book", &self.book),
+        ]
+    }
+}
+
+/// A whole message file through a fresh desk: 0, or the number of the refusal that ended it.
+pub type Replay = fn(&[u8], &mut Buffers) -> u64;
+
+/// How much of a book a call is lent: the figures of Q quarter hours, or all of it where it has not so many.
+pub fn lent(book: &[u64], quarters: u64) -> usize {
+    let wanted = quarters.checked_mul(BOOK_ROWS as u64);
+    let fits = wanted.filter(|&wanted| wanted <= book.len() as u64);
+    fits.map_or(book.len(), |wanted| wanted as usize)
+}
