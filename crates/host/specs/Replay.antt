@@ -43,7 +43,7 @@ pub record Runs (file : List ℕ) (cs : List Sent) (e : Ending) (s : Stores) (bu
   pub report : places′ ≡ over (reportOf (length file) (length cs) e (plainEnd [] (toldOf s cs))) places
   pub gives : Gives cs s buffer output after buffer′ output′
 
--- "values, book or log that the call takes differs from its opening length 2": so does a report that is too short, and nothing changes
+-- 2, as for a store of another length: the report is too short, and nothing changes
 pub record Kept (number : ℕ) (s after : Stores) (buffer buffer′ output output′ report report′ : List ℕ) : Type 0 where
   pub answer : number ≡ 2
   pub stores : after ≡ s
