@@ -1,3 +1,4 @@
 pub mod Filling
 pub mod Logs
+pub mod Selected
 pub mod SidesIn

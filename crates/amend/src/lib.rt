@@ -13,3 +13,11 @@ pub struct Turn {
     pub old2: state::Selection,
     pub new2: state::Selection,
 }
+
+// The rows of values of the versions selected, before and after, for run 1 and run 2.
+pub struct ValueRows {
+    pub old1: u64,
+    pub new1: u64,
+    pub old2: u64,
+    pub new2: u64,
+}

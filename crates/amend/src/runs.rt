@@ -1,46 +1,85 @@
 // Both runs of the book after a change of a point's selections.
 use crate::Turn;
+use crate::ValueRows;
 use crate::rows::amend_sides;
 use crate::rows::differs;
 use model::Place;
 use model::Sides;
-use state::Row;
 use state::Selection;
 use state::VersionRecord;
 use state::selections::or_else;
 ghost use mathlib.Core.Path.{_≡_};
 ghost use mathlib.Core.Bool.{cond};
-ghost use Prim.Native.Nat.{_*_, _≤_};
-ghost use lib.ListN.{length, take};
+ghost use Prim.Native.Nat.{_≤_};
+ghost use lib.ListN.{take};
 ghost use Rattle.quantity.specs.Limits.{mostQuarters};
-ghost use Rattle.model.specs.Log.{differ};
-ghost use Rattle.model.specs.Step.{placeOf, amendSides, amendBy};
+ghost use Rattle.model.specs.Step.{amendSides, amendBy};
 ghost use Rattle.amend.specs.Lent.{PlaceIn, BookIn, SidesIn, TurnIn};
+ghost use Rattle.amend.specs.Rows.{RowsAt, indexOf, placeAt};
 
-// Row i of values begins at i × Q.
-fn row_place(row: Row, q: u64) -> u64
-    requires { ⌜ q ≤ mostQuarters ⌝ }
-    ensures { λ r. ⌜ r ≡ row .0 * q ⌝ }
+// The rows of values of the records at four indexes: 0 past the count.
+fn rows_at(
+    versions: [VersionRecord; 512],
+    count: u64,
+    old1: u64,
+    new1: u64,
+    old2: u64,
+    new2: u64,
+) -> ValueRows
+    requires { ⌜ count ≤ 512 ⌝ }
+    ensures { λ r. ⌜ RowsAt (take count versions) old1 new1 old2 new2 r ⌝ }
 {
-    (row.0 as u64) * q
+    let from1 = if old1 < count {
+        let v = versions[old1 as usize];
+        v.row.0 as u64
+    } else {
+        0
+    };
+    let to1 = if new1 < count {
+        let v = versions[new1 as usize];
+        v.row.0 as u64
+    } else {
+        0
+    };
+    let from2 = if old2 < count {
+        let v = versions[old2 as usize];
+        v.row.0 as u64
+    } else {
+        0
+    };
+    let to2 = if new2 < count {
+        let v = versions[new2 as usize];
+        v.row.0 as u64
+    } else {
+        0
+    };
+    ValueRows {
+        old1: from1,
+        new1: to1,
+        old2: from2,
+        new2: to2,
+    }
 }
 
-// Where a selected version's series begins in the values.
-fn place_of(versions: [VersionRecord; 512], count: u64, q: u64, s: Selection) -> Place
-    requires { ⌜ (count ≤ 512) × (q ≤ mostQuarters) ⌝ }
-    ensures { λ r. ⌜ r ≡ placeOf q (take count versions) s ⌝ }
+// The index of a selected version.
+fn index_of(s: Selection) -> u64
+    ensures { λ r. ⌜ r ≡ indexOf s ⌝ }
 {
-    let Selection::Selected(r) = s else {
+    match s {
+        Selection::None => 0,
+        Selection::Selected(r) => r.at,
+    }
+}
+
+// Where a selected version's series begins in the values: row i at i × Q.
+fn place_at(s: Selection, row: u64, q: u64) -> Place
+    requires { ⌜ (row ≤ 65535) × (q ≤ mostQuarters) ⌝ }
+    ensures { λ r. ⌜ r ≡ placeAt q row s ⌝ }
+{
+    let Selection::Selected(_) = s else {
         return Place::Nowhere;
     };
-    let at = r.at;
-    if at < count {
-        let i = at as usize;
-        let v = versions[i];
-        let row = v.row;
-        return Place::At(row_place(row, q));
-    }
-    Place::At(0)
+    Place::At(row * q)
 }
 
 // One run, where its selection changes.
@@ -83,10 +122,18 @@ pub fn amend(
     let own_new = t.new2;
     let old2 = or_else(own_old, old1);
     let new2 = or_else(own_new, new1);
-    let from1 = place_of(versions, count, q as u64, old1);
-    let to1 = place_of(versions, count, q as u64, new1);
-    let from2 = place_of(versions, count, q as u64, old2);
-    let to2 = place_of(versions, count, q as u64, new2);
+    let rows = rows_at(
+        versions,
+        count,
+        index_of(old1),
+        index_of(new1),
+        index_of(old2),
+        index_of(new2),
+    );
+    let from1 = place_at(old1, rows.old1, q as u64);
+    let to1 = place_at(new1, rows.new1, q as u64);
+    let from2 = place_at(old2, rows.old2, q as u64);
+    let to2 = place_at(new2, rows.new2, q as u64);
     amend_run(1, sides, q, differs(old1, new1), from1, to1, values, book);
     amend_run(2, sides, q, differs(old2, new2), from2, to2, values, book);
 }

@@ -3,16 +3,16 @@ use crate::Noticed;
 use crate::checks::notice_ok;
 use amend::Turn;
 use amend::log::due_by;
+use change::changes::on_day;
 use change::changes::with_notice;
+use change::changes::with_used;
 use follow::Sizes;
 use follow::checks::log_full;
 use follow::checks::other_lengths;
 use follow::follow::follow;
 use lookup::Survey;
-use lookup::limits::rows_in;
 use lookup::points::is_active;
 use lookup::points::state_at;
-use lookup::surveys::survey;
 use model::Answer;
 use model::Cause;
 use model::Due;
@@ -21,7 +21,6 @@ use quantity::Day;
 use quantity::PointNo;
 use quantity::Version;
 use state::Desk;
-use state::Held;
 use verdict::Outcome;
 use verdict::desks::absent;
 use verdict::desks::is_open;
@@ -29,8 +28,6 @@ use verdict::desks::look;
 use verdict::desks::not_check;
 use verdict::rules::or_if;
 ghost use mathlib.Core.Path.{_≡_};
-ghost use Prim.Native.Nat.{_≤_};
-ghost use lib.ListN.{length};
 ghost use Rattle.state.specs.Desk.{rowsIn, versionsIn};
 ghost use Rattle.state.specs.Valid.{Sound};
 ghost use Rattle.lookup.specs.Survey.{Surveyed};
@@ -59,9 +56,8 @@ pub fn notice_turn(
     let old1 = s.first;
     let old2 = s.second;
     let n = with_notice(d, held, verdict, day);
-    let opening = d.opening;
-    let versions = n.versions;
-    let after = survey(versions, n.count, rows_in(opening), point, version);
+    let l = look(n, point, version, 0, 0, 0);
+    let after = l.survey;
     let new1 = after.first;
     let new2 = after.second;
     Turn {
@@ -158,8 +154,26 @@ fn notice_granted(
     let held = j.held;
     let turn = j.turn;
     let due = j.due;
+    let o = d.opening;
+    let groups = d.groups;
+    let points = d.points;
+    let here = state_at(points, point);
     let n = with_notice(d, held, verdict, day);
-    follow(n, point, day, turn, due, values, book, log)
+    let versions = n.versions;
+    let used = follow(
+        groups,
+        here,
+        turn,
+        due,
+        versions,
+        d.count,
+        o.quarters as usize,
+        d.used,
+        values,
+        book,
+        log,
+    );
+    on_day(with_used(n, used), day)
 }
 
 pub fn notice(

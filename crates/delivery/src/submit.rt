@@ -6,6 +6,8 @@ use crate::checks::too_early;
 use amend::Turn;
 use amend::copies::copy_row;
 use amend::log::due_by;
+use change::changes::on_day;
+use change::changes::with_used;
 use change::changes::with_version;
 use follow::Sizes;
 use follow::checks::log_full;
@@ -32,19 +34,18 @@ use verdict::desks::is_open;
 use verdict::desks::look;
 use verdict::rules::or_if;
 ghost use mathlib.Core.Path.{_≡_};
-ghost use mathlib.Core.Bool.{true};
 ghost use mathlib.Core.List.{map};
 ghost use Prim.Native.Nat.{_+_, _*_, _≤_};
 ghost use lib.ListN.{length};
 ghost use Rattle.quantity.specs.Word.{signed};
 ghost use Rattle.book.specs.Row.{splice};
 ghost use Rattle.state.specs.Desk.{rowsIn, versionsIn};
-ghost use Rattle.state.specs.Valid.{Sound, validDesk};
+ghost use Rattle.state.specs.Valid.{Sound};
 ghost use Rattle.lookup.specs.Survey.{Surveyed};
 ghost use Rattle.model.specs.Call.{submits};
 ghost use Rattle.model.specs.Causes.{rules, firstOf};
 ghost use Rattle.model.specs.Log.{due as dueOf};
-ghost use Rattle.model.specs.Step.{step, granting, refusalBy, versionBy};
+ghost use Rattle.model.specs.Step.{step, granting};
 ghost use Rattle.model.specs.View.{viewOf};
 ghost use Rattle.model.specs.declared.Answer.the-variants.{Accepted};
 ghost use Rattle.verdict.specs.Stepped.{storesOf, lent, Stepped};
@@ -161,11 +162,28 @@ fn submit_granted(
     ensures { λ r. ⌜ Stepped (granting d (storesOf (now (values .entry)) (now (book .entry)) (now (log .entry))) (submits (point .0) (version .0) (day .0) (map signed (now (series .entry))))) Accepted r (now (values .exit)) (now (book .exit)) (now (log .exit)) ⌝ }
 {
     let o = d.opening;
+    let groups = d.groups;
+    let points = d.points;
     let q = o.quarters as usize;
     let start = d.count as usize * q;
     store(values, start, q, series);
+    let here = state_at(points, point);
     let n = with_version(d, point, version, day);
-    follow(n, point, day, turn, due, values, book, log)
+    let versions = n.versions;
+    let used = follow(
+        groups,
+        here,
+        turn,
+        due,
+        versions,
+        n.count,
+        q,
+        d.used,
+        values,
+        book,
+        log,
+    );
+    on_day(with_used(n, used), day)
 }
 
 pub fn submit(

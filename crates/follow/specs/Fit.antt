@@ -4,13 +4,11 @@ use mathlib.Core.Bool.{true}
 use mathlib.Core.List.{List}
 use Prim.Native.Nat.{ℕ, _*_, _≤_}
 use lib.ListN.{length}
-use Rattle.quantity.specs.Limits.{bookRows, mostQuarters, groupOk, versions}
+use Rattle.quantity.specs.Limits.{bookRows, mostQuarters, groupOk}
 use Rattle.quantity.specs.Lists.{all}
-use Rattle.state.specs.Desk.{versionsIn, onDay, withUsed}
-use Rattle.state.specs.Point.{pointAt}
 use Rattle.state.specs.Selection.{own}
-use Rattle.state.specs.Valid.{pointRecordOk}
-use Rattle.state.specs.declared.Desk.{Desk}
+use Rattle.state.specs.Valid.{stateOk}
+use Rattle.state.specs.declared.PointState.{PointState}
 use Rattle.state.specs.declared.VersionRecord.{VersionRecord}
 use Rattle.model.specs.Call.{Lengths}
 use Rattle.model.specs.Log.{logged, usedAfter}
@@ -32,19 +30,16 @@ pub record Turned (vs ws : List VersionRecord) (p : ℕ) (t : Turn) : Type 0 whe
   pub old2 : t .old2 ≡ own 2 p vs
   pub new2 : t .new2 ≡ own 2 p ws
 
--- a desk with its versions changed, and the stores that are to follow
-pub record Changed (d : Desk) (values book : List ℕ) (t : Turn) : Type 0 where
-  pub few : d .opening .quarters ≤ mostQuarters
-  pub groups : all groupOk (d .groups) ≡ true
-  pub points : all pointRecordOk (d .points) ≡ true
-  pub count : d .count ≤ versions
-  pub used : 4 * d .used ≤ d .opening .log
-  pub whole : length book ≡ bookRows * d .opening .quarters
-  pub turn : TurnIn (d .opening .quarters) values (versionsIn d) t
+-- a point and its versions after a change, and the stores that are to follow
+pub record Changed (q : ℕ) (groups : List ℕ) (here : PointState) (vs : List VersionRecord) (values book : List ℕ) (t : Turn) : Type 0 where
+  pub few : q ≤ mostQuarters
+  pub allotted : all groupOk groups ≡ true
+  pub fit : stateOk here ≡ true
+  pub whole : length book ≡ bookRows * q
+  pub turn : TurnIn q values vs t
 
--- the book, the log and the desk after the change
-pub record Followed (d : Desk) (p day : ℕ) (t : Turn) (due : Due) (values book log : List ℕ) (r : Desk) (book′ log′ : List ℕ) : Type 0 where
-  pub booked :
-      book′ ≡ amendBy (d .opening .quarters) (sidesOf (d .groups) (pointAt (d .points) p)) (versionsIn d) (t .old1) (t .new1) (t .old2) (t .new2) values book
-  pub noted : log′ ≡ logged (d .used) due log
-  pub held : r ≡ onDay (withUsed d (usedAfter due (d .used))) day
+-- the book, the log and its rows in use after the change
+pub record Followed (q : ℕ) (groups : List ℕ) (here : PointState) (vs : List VersionRecord) (t : Turn) (due : Due) (used : ℕ) (values book log : List ℕ) (r : ℕ) (book′ log′ : List ℕ) : Type 0 where
+  pub booked : book′ ≡ amendBy q (sidesOf groups here) vs (t .old1) (t .new1) (t .old2) (t .new2) values book
+  pub noted : log′ ≡ logged used due log
+  pub counted : r ≡ usedAfter due used

@@ -1,45 +1,36 @@
-// A change of a point's versions: the rows of the book that it touches, the log row that is due, and the desk then.
+// A change of a point's versions: the rows of the book that it touches, and the log row that is due.
 use amend::Turn;
 use amend::log::put_row;
 use amend::log::used_after;
 use amend::runs::amend;
 use amend::sides::sides_of;
-use change::changes::on_day;
-use change::changes::with_used;
-use lookup::points::state_at;
 use model::Due;
-use quantity::Day;
-use quantity::PointNo;
-use state::Desk;
-ghost use mathlib.Core.Path.{_≡_};
-ghost use Prim.Native.Nat.{_*_, _≤_};
-ghost use lib.ListN.{length, take};
-ghost use Rattle.state.specs.Desk.{versionsIn};
-ghost use Rattle.state.specs.Valid.{Sound};
-ghost use Rattle.amend.specs.Lent.{TurnIn, RoomIn};
+use state::PointState;
+use state::VersionRecord;
+ghost use Prim.Native.Nat.{_≤_};
+ghost use lib.ListN.{take};
+ghost use Rattle.amend.specs.Lent.{RoomIn};
 ghost use Rattle.follow.specs.Fit.{Changed, Followed};
 
+// By the point's state and the versions after the change. Gives the log rows in use then.
 pub fn follow(
-    d: Desk,
-    point: PointNo,
-    day: Day,
+    groups: [u64; 17],
+    here: PointState,
     t: Turn,
     due: Due,
+    versions: [VersionRecord; 512],
+    count: u64,
+    q: usize,
+    used: u64,
     values: &[u64],
     book: &mut [u64],
     log: &mut [u64],
-) -> Desk
-    requires { ⌜ Changed d (now values) (now book) t ⌝ }
-    requires { ⌜ RoomIn (d .used) (now log) due ⌝ }
-    ensures { λ r. ⌜ Followed d (point .0) (day .0) t due (now (values .entry)) (now (book .entry)) (now (log .entry)) r (now (book .exit)) (now (log .exit)) ⌝ }
+) -> u64
+    requires { ⌜ Changed q groups here (take count versions) (now values) (now book) t ⌝ }
+    requires { ⌜ (count ≤ 512) × RoomIn used (now log) due ⌝ }
+    ensures { λ r. ⌜ Followed q groups here (take count versions) t due used (now (values .entry)) (now (book .entry)) (now (log .entry)) r (now (book .exit)) (now (log .exit)) ⌝ }
 {
-    let opening = d.opening;
-    let groups = d.groups;
-    let points = d.points;
-    let versions = d.versions;
-    let q = opening.quarters as usize;
-    let sides = sides_of(groups, state_at(points, point));
-    amend(sides, t, versions, d.count, q, values, book);
-    put_row(log, d.used as usize, due);
-    on_day(with_used(d, used_after(due, d.used)), day)
+    amend(sides_of(groups, here), t, versions, count, q, values, book);
+    put_row(log, used as usize, due);
+    used_after(due, used)
 }

@@ -1,4 +1,4 @@
-// What follows a change of a point's versions, whichever call makes it: the rows of the book, the log row, the desk.
+// What follows a change of a point's versions, whichever call makes it: the rows of the book and the log row.
 pub mod checks;
 pub mod follow;
 

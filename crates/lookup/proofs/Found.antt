@@ -1,6 +1,7 @@
--- Laws of the walk over the versions: what it finds in no record, and with one record more. Assumes nothing.
+-- Laws of the walk over the versions: what it finds in no record, with one record more, and in another point's. Assumes nothing.
 use Prim.Native.Nat.{ℕ, _+_, _<_}
-use mathlib.Core.Bool.{true}
+use mathlib.Core.Path.{_≡_, refl}
+use mathlib.Core.Bool.{Bool, true, false, _&&_}
 use mathlib.Core.List.{List}
 use lib.ListN.{length, take, getD}
 use Rattle.quantity.proofs.Lists.{all-none, all-more}
@@ -9,7 +10,8 @@ use Rattle.state.specs.Selection.{raiseIf, best, isCounted}
 use Rattle.lookup.specs.Survey.{surveyStep, Surveyed}
 use Rattle.state.specs.Valid.{versionRecordOk}
 use Rattle.state.specs.Version.{emptyVersion, isAt, orHeld, held}
-use Rattle.state.specs.declared.Held.the-variants.{Absent}
+use Rattle.state.specs.declared.Held.{Held}
+use Rattle.state.specs.declared.Held.the-variants.{Absent, Has}
 use Rattle.state.specs.declared.Selection.the-variants.{None}
 use Rattle.lookup.specs.declared.Survey.{Survey}
 use Rattle.state.specs.declared.VersionRecord.{VersionRecord}
@@ -37,3 +39,12 @@ module _ (rows p x : ℕ) (vs : List VersionRecord) where
         first = rw (f .first) (walk-more (raiseIf (isCounted 1 p)) None vs i emptyVersion h);
         second = rw (f .second) (walk-more (raiseIf (isCounted 2 p)) None vs i emptyVersion h);
       }
+
+-- a record of another point: nothing is found in it
+other-held : (p x i : ℕ) (v : VersionRecord) (h : Held) → isAt p v ≡ false → h ≡ orHeld p x h i v
+other-held p x i v Absent e = rw e
+other-held p x i v (Has j s) e = refl
+
+pub other-point : (rows p x : ℕ) (s : Survey) (i : ℕ) (v : VersionRecord) {fit : Bool} → isAt p v ≡ false → fit ≡ (s .fit && versionRecordOk rows v)
+    → record { fit = fit; held = s .held; highest = s .highest; first = s .first; second = s .second } ≡ surveyStep rows p x s i v
+other-point rows p x s i v e f = let h = other-held p x i v (s .held) e in rw (f, ← h, e)

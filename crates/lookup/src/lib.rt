@@ -1,4 +1,4 @@
-// The one test behind cause 1, and the two walks, one over the versions and one over the points, that give a call all it asks of them.
+// The tests behind cause 1, and the two walks, one over the versions and one over the points, that give a call all it asks of them.
 pub mod limits;
 pub mod points;
 pub mod surveys;

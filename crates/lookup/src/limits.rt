@@ -1,9 +1,6 @@
-// The limits of the state: the one test behind cause 1, for any state whatever.
-use crate::points::scan;
-use crate::surveys::survey;
+// The limits of the state, behind cause 1, for any state whatever.
 use quantity::Day;
 use quantity::PointNo;
-use quantity::Version;
 use quantity::limits::VERSIONS;
 use quantity::limits::area_ok;
 use quantity::limits::day_ok;
@@ -12,7 +9,6 @@ use quantity::limits::group_ok;
 use quantity::limits::point_ok;
 use quantity::limits::quarters_ok;
 use quantity::limits::version_ok;
-use state::Desk;
 use state::Opening;
 use state::PointRecord;
 use state::PointState;
@@ -22,7 +18,8 @@ ghost use Rattle.quantity.specs.Limits.{groupOk};
 ghost use Rattle.quantity.specs.Lists.{all};
 ghost use Rattle.state.specs.Desk.{rowsIn};
 ghost use Rattle.state.specs.Point.{seriesOk};
-ghost use Rattle.state.specs.Valid.{openingOk, pointRecordOk, versionRecordOk, frameOk, validDesk};
+ghost use Rattle.state.specs.Valid.{openingOk, pointRecordOk, versionRecordOk};
+ghost use Rattle.lookup.specs.Frame.{frameBy};
 
 pub fn series_ok(kind: u64, area: u64, partner: u64) -> bool
     ensures { λ r. ⌜ r ≡ seriesOk kind area partner ⌝ }
@@ -101,26 +98,13 @@ pub fn rows_in(o: Opening) -> u64
     o.values / o.quarters
 }
 
-pub fn frame_ok(d: Desk) -> bool
-    ensures { λ r. ⌜ r ≡ frameOk d ⌝ }
+// All but the two tables.
+pub fn frame_ok(opening: Opening, day: Day, groups: [u64; 17], count: u64, used: u64) -> bool
+    ensures { λ r. ⌜ r ≡ frameBy opening day groups count used ⌝ }
 {
-    let opening = d.opening;
-    let day = d.day;
-    let groups = d.groups;
     opening_ok(opening)
         & (day_ok(day)
             & (groups_ok(groups)
-                & ((d.count <= VERSIONS)
-                    & ((d.count <= rows_in(opening)) & (d.used <= opening.log / 4)))))
-}
-
-pub fn valid(d: Desk) -> bool
-    ensures { λ r. ⌜ r ≡ validDesk d ⌝ }
-{
-    let opening = d.opening;
-    let points = d.points;
-    let versions = d.versions;
-    let found = survey(versions, d.count, rows_in(opening), PointNo(0), Version(0));
-    let seen = scan(points, 0, 0, 0);
-    frame_ok(d) & (seen.fit & found.fit)
+                & ((count <= VERSIONS)
+                    & ((count <= rows_in(opening)) & (used <= opening.log / 4)))))
 }

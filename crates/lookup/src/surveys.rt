@@ -31,8 +31,8 @@ pub fn or_held(held: Held, at: u64, v: VersionRecord, point: PointNo, version: V
     }
 }
 
-// One record more.
-pub fn surveyed(
+// One record of the point more.
+fn surveyed_here(
     s: Survey,
     at: u64,
     v: VersionRecord,
@@ -53,6 +53,33 @@ pub fn surveyed(
         highest: raised_if(is_at(v, point), highest, at, number),
         first: raised_if(is_counted(v, 1, point), first, at, number),
         second: raised_if(is_counted(v, 2, point), second, at, number),
+    }
+}
+
+// One record more; another point's is only asked whether it fits.
+pub fn surveyed(
+    s: Survey,
+    at: u64,
+    v: VersionRecord,
+    rows: u64,
+    point: PointNo,
+    version: Version,
+) -> Survey
+    ensures { λ r. ⌜ r ≡ surveyStep rows (point .0) (version .0) s at v ⌝ }
+{
+    if is_at(v, point) {
+        return surveyed_here(s, at, v, rows, point, version);
+    }
+    let held = s.held;
+    let highest = s.highest;
+    let first = s.first;
+    let second = s.second;
+    Survey {
+        fit: s.fit & version_record_ok(v, rows),
+        held,
+        highest,
+        first,
+        second,
     }
 }
 

@@ -2,7 +2,6 @@
 use amend::delta::move_delta;
 use change::changes::on_day;
 use change::changes::with_group;
-use lookup::limits::valid;
 use model::Answer;
 use model::Cause;
 use model::Verdict;
@@ -14,6 +13,7 @@ use state::Desk;
 use verdict::Outcome;
 use verdict::checks::at_work;
 use verdict::checks::refuse;
+use verdict::desks::valid;
 use verdict::rules::or_if;
 ghost use Prim.Native.Nat.{ℕ};
 ghost use mathlib.Core.Path.{_≡_};

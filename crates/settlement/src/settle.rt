@@ -2,7 +2,6 @@
 use change::changes::on_day;
 use change::changes::with_settled;
 use change::settling::with_run_settled;
-use lookup::limits::valid;
 use model::Answer;
 use model::Cause;
 use model::Verdict;
@@ -15,6 +14,7 @@ use state::Runs;
 use verdict::Outcome;
 use verdict::checks::at_work;
 use verdict::checks::refuse;
+use verdict::desks::valid;
 use verdict::rules::or_if;
 ghost use mathlib.Core.Path.{_≡_};
 ghost use mathlib.Core.Bool.{true};

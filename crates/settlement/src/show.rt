@@ -1,6 +1,5 @@
 // Show: a group's row of a run, itself a part of the lent book. Its number and its part are two entries over the same input.
 use book::place::row_start;
-use lookup::limits::valid;
 use model::Answer;
 use model::Cause;
 use model::Verdict;
@@ -8,6 +7,7 @@ use quantity::limits::group_ok;
 use quantity::limits::run_ok;
 use state::Desk;
 use verdict::checks::at_work;
+use verdict::desks::valid;
 use verdict::rules::or_if;
 ghost use Prim.Native.Nat.{ℕ};
 ghost use mathlib.Core.Path.{_≡_};

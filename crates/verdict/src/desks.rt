@@ -11,6 +11,7 @@ use state::Held;
 use state::Opening;
 ghost use mathlib.Core.Path.{_≡_};
 ghost use Rattle.state.specs.Desk.{isOpen};
+ghost use Rattle.state.specs.Valid.{validDesk};
 ghost use Rattle.model.specs.Causes.{isAbsent, notCheck};
 ghost use Rattle.verdict.specs.Look.{Looked};
 
@@ -18,16 +19,26 @@ pub fn look(d: Desk, point: PointNo, version: Version, kind: u64, area: u64, par
     ensures { λ r. ⌜ Looked d (point .0) (version .0) kind area partner r ⌝ }
 {
     let opening = d.opening;
+    let day = d.day;
+    let groups = d.groups;
     let points = d.points;
     let versions = d.versions;
     let found = survey(versions, d.count, rows_in(opening), point, version);
     let seen = scan(points, kind, area, partner);
-    let valid = frame_ok(d) & (seen.fit & found.fit);
+    let valid = frame_ok(opening, day, groups, d.count, d.used) & (seen.fit & found.fit);
     Look {
         valid,
         taken: seen.taken,
         survey: found,
     }
+}
+
+// Cause 1 alone.
+pub fn valid(d: Desk) -> bool
+    ensures { λ r. ⌜ r ≡ validDesk d ⌝ }
+{
+    let l = look(d, PointNo(0), Version(0), 0, 0, 0);
+    l.valid
 }
 
 pub fn is_open(o: Opening) -> bool

@@ -7,16 +7,13 @@ use Rattle.clearing.proofs.notice.notice_turn.Tie as tie
 with-notice-requires : tie.Need-with-notice-requires
 with-notice-requires c κs = search needs
 
-rows-in-requires : tie.Need-rows-in-requires
-rows-in-requires c κs = search needs
-
-survey-requires : tie.Need-survey-requires
-survey-requires c κs = search needs
+look-requires : tie.Need-look-requires
+look-requires c κs = search needs
 
 returns : tie.Need-returns
 returns c =
-    let n = c .before .before .before .before .with-notice .ensures in
-    let f = c .survey .ensures in
+    let n = c .before .before .with-notice .ensures in
+    let f = c .before .look .ensures .survey in
     record {
       old1 = refl;
       new1 = f .first ∙ rw n;
@@ -25,5 +22,4 @@ returns c =
     }
 
 pub notice-turn-spec : {M : Type 1} → statement M
-notice-turn-spec =
-    tie.close (tie.spec with-notice-requires rows-in-requires survey-requires returns)
+notice-turn-spec = tie.close (tie.spec with-notice-requires look-requires returns)

@@ -2,7 +2,7 @@
 use lib.ListN.{length}
 use Rattle.quantity.proofs.Lists.{length-of}
 use mathlib.Core.Path.{_≡_}
-use Rattle.state.specs.Valid.{validDesk}
+use Rattle.state.specs.Valid.{frameOk, validDesk}
 use borrow.Author.Needs.{needs}
 use Rattle.verdict.proofs.desks.look.Statement.{statement}
 use Rattle.verdict.proofs.desks.look.Tie as tie
@@ -23,7 +23,7 @@ frame-ok-requires : tie.Need-frame-ok-requires
 frame-ok-requires c κs = search needs
 
 returns : tie.Need-returns
-unfolding validDesk
+unfolding validDesk frameOk
 returns c =
     let r = c .before .before .before .before .before .rows-in .ensures in
     let s = rw r at (c .before .before .before .before .survey .ensures) in
@@ -31,7 +31,7 @@ returns c =
     record {
       valid = rw (c .before .before .frame-ok .ensures, n .fit, s .fit);
       taken = n .taken;
-      table = table (c .before .before .before .before .before .before .before .before .before);
+      table = table (c .before .before .before .before .before .before .before .before .before .before .before);
       survey = s;
     }
 

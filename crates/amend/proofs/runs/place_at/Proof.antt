@@ -1,0 +1,24 @@
+-- `place_at` meets its contract. Assumes nothing.
+use native.Mathlib.Omega.{arith}
+use native.Mathlib.Nat.{mul-le-mul-right}
+use borrow.Author.Needs.{needs}
+use Rattle.amend.proofs.runs.place_at.Statement.{statement}
+use Rattle.amend.proofs.runs.place_at.Tie as tie
+
+enum-told : tie.Need-enum-told
+enum-told c = search needs
+
+enum-told-2 : tie.Need-enum-told-2
+enum-told-2 c = search needs
+
+returns : tie.Need-returns
+returns c = search needs
+
+mul-t4 : tie.Need-mul-t4
+mul-t4 c = omega (arith, mul-le-mul-right (c .before .before .args .q) (c .before .before .pre .0))
+
+returns-2 : tie.Need-returns-2
+returns-2 c = rw (c .enum-told .given .1)
+
+pub place-at-spec : {M : Type 1} → statement M
+place-at-spec = tie.close (tie.spec enum-told enum-told-2 returns mul-t4 returns-2)
