@@ -3,18 +3,15 @@ use crate::damage::damaged;
 use crate::field_at;
 use crate::pad_fields;
 use amend::copies::copy_row;
-use clearing::notice::notice;
-use delivery::submit::submit;
-use desk::activate::activate;
-use desk::deactivate::deactivate;
-use desk::open::open;
 use desk::status::status;
+use entry::Change;
+use entry::via::via_apply;
+use entry::via::via_open;
+use entry::via::via_submit;
 use message::call::groups_of;
 use quantity::Day;
 use quantity::PointNo;
 use quantity::Version;
-use settlement::assign::assign;
-use settlement::settle::settle;
 use settlement::show::show_number;
 use settlement::show::show_row;
 use state::Desk;
@@ -71,17 +68,39 @@ fn fields_in(record: &[u64]) -> [u64; 21] {
     pad_fields(&record[4..])
 }
 
-// A call that takes no store.
-fn run_alone(d: Desk, op: u64, f: [u64; 21]) -> Outcome {
+// A change of the desk by its number: 2 activate, 3 deactivate, 5 notice, 6 assign, 9 settle.
+fn change_of(op: u64, f: [u64; 21]) -> Change {
     match op {
-        2 => activate(d, PointNo(f[0]), f[1], f[2], f[3], Day(f[4])),
-        3 => deactivate(d, PointNo(f[0]), Day(f[1])),
-        8 => status(d, PointNo(f[0]), Version(f[1])),
-        _ => settle(d, f[0], Day(f[1])),
+        2 => Change::Activate {
+            point: PointNo(f[0]),
+            kind: f[1],
+            area: f[2],
+            partner: f[3],
+            day: Day(f[4]),
+        },
+        3 => Change::Deactivate {
+            point: PointNo(f[0]),
+            day: Day(f[1]),
+        },
+        5 => Change::Notice {
+            point: PointNo(f[0]),
+            version: Version(f[1]),
+            verdict: f[2],
+            day: Day(f[3]),
+        },
+        6 => Change::Assign {
+            area: f[0],
+            group: f[1],
+            day: Day(f[2]),
+        },
+        _ => Change::Settle {
+            run: f[0],
+            day: Day(f[1]),
+        },
     }
 }
 
-// A call that takes stores, all but show.
+// A call but show, with its stores. What changes the desk goes through the entries over the lent state.
 fn run_lent(
     d: Desk,
     op: u64,
@@ -91,8 +110,10 @@ fn run_lent(
     book: &mut [u64],
     log: &mut [u64],
 ) -> Outcome {
+    let point = PointNo(f[0]);
+    let version = Version(f[1]);
     match op {
-        1 => open(
+        1 => via_open(
             d,
             f[0],
             Day(f[1]),
@@ -103,28 +124,9 @@ fn run_lent(
             book,
             log,
         ),
-        4 => submit(
-            d,
-            PointNo(f[0]),
-            Version(f[1]),
-            Day(f[2]),
-            series,
-            values,
-            book,
-            log,
-        ),
-        5 => notice(
-            d,
-            PointNo(f[0]),
-            Version(f[1]),
-            f[2],
-            Day(f[3]),
-            values,
-            book,
-            log,
-        ),
-        6 => assign(d, f[0], f[1], Day(f[2]), book),
-        _ => run_alone(d, op, f),
+        4 => via_submit(d, point, version, Day(f[2]), series, values, book, log),
+        8 => status(d, point, version),
+        _ => via_apply(d, change_of(op, f), values, book, log),
     }
 }
 

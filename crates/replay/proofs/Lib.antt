@@ -1,7 +1,6 @@
 pub mod Accepted
 pub mod Ends
 pub mod Going
-pub mod Kept
 pub mod Lengths
 pub mod Main
 pub mod Opened

@@ -1,7 +1,7 @@
 -- `hand_on` meets its contract. Assumes nothing.
 use mathlib.Core.Path.{refl}
 use Rattle.replay.specs.Given.{asked}
-use Rattle.replay.proofs.Kept.{none-taken, book-taken}
+use Rattle.verdict.proofs.Untaken.{none-taken, book-taken}
 use borrow.Author.Needs.{needs}
 use Rattle.replay.proofs.hand.hand_on.Statement.{statement}
 use Rattle.replay.proofs.hand.hand_on.Tie as tie
@@ -100,7 +100,7 @@ same-length-10 c = search needs
 
 returns-6 : tie.Need-returns-6
 unfolding asked
-returns-6 c = rw (c .before .before .before .before .before .call6 .given .1) (book-taken _ _ _ refl refl (c .before .before .assign .ensures _ _))
+returns-6 c = rw (c .before .before .before .before .before .call6 .given .1) (book-taken _ _ _ refl (c .before .before .assign .ensures _ _))
 
 returns-7 : tie.Need-returns-7
 unfolding asked

@@ -1,0 +1,37 @@
+// Open, on the desk that is lent.
+use desk::open::open as core;
+use model::Answer;
+use quantity::Day;
+use state::Desk;
+ghost use Rattle.model.specs.Call.{opens};
+ghost use Rattle.model.specs.Step.{step};
+ghost use Rattle.verdict.specs.Stepped.{Stepped, storesOf, lent};
+
+// The 17 delta groups: T's, then those of the areas 1 to 16.
+pub fn open(
+    d: &mut Desk,
+    quarters: u64,
+    first: Day,
+    clearing: Day,
+    correction: Day,
+    groups: [u64; 17],
+    values: &[u64],
+    book: &mut [u64],
+    log: &[u64],
+) -> Answer
+    ensures { λ r. ⌜ Stepped (step (now (d .entry)) (lent (opens quarters (first .0) (clearing .0) (correction .0) groups) (storesOf (now (values .entry)) (now (book .entry)) (now (log .entry))))) r (now (d .exit)) (now (values .entry)) (now (book .exit)) (now (log .entry)) ⌝ }
+{
+    let out = core(
+        *d,
+        quarters,
+        first,
+        clearing,
+        correction,
+        groups,
+        values,
+        book,
+        log,
+    );
+    *d = out.desk;
+    out.answer
+}
