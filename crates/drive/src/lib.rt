@@ -1,7 +1,6 @@
-// For tests and benchmarks only: one call read and one call written, as numbers in slices; the row adder; a script of the nine calls.
-mod damage;
+// For tests and benchmarks only: one call read and one call written, as numbers in slices; the row adder; damage to the state.
+pub mod damage;
 mod row;
-mod script;
 
 use message::cause;
 use reader::Step;
@@ -59,7 +58,7 @@ pub extern "C" fn drive_read(file: &[u8], start: u64, series: &mut [u64], out: &
 }
 
 // A field, or 0 where there is none.
-fn field_at(fields: &[u64], i: usize) -> u64
+pub fn field_at(fields: &[u64], i: usize) -> u64
     ensures { λ r. ⌜ r ≡ getD (now (fields .entry)) i 0 ⌝ }
 {
     if i < fields.len() {
@@ -69,7 +68,7 @@ fn field_at(fields: &[u64], i: usize) -> u64
 }
 
 // The first 21 fields, with 0 behind them.
-fn pad_fields(fields: &[u64]) -> [u64; 21]
+pub fn pad_fields(fields: &[u64]) -> [u64; 21]
     ensures { λ r. ⌜ r ≡ fields21 (now (fields .entry)) ⌝ }
 {
     let mut padded = [0u64; 21];

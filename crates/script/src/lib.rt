@@ -1,9 +1,9 @@
-// A script of the nine calls on a fresh desk, each with its own lengths of the stores; and damage to the desk's fields.
-use crate::damage::damaged;
-use crate::field_at;
-use crate::pad_fields;
+// For tests only: a script of the nine calls on a fresh desk, each with its own lengths of the stores; and damage to the desk's fields.
 use amend::copies::copy_row;
 use desk::status::status;
+use drive::damage::damaged;
+use drive::field_at;
+use drive::pad_fields;
 use entry::Change;
 use entry::via::via_apply;
 use entry::via::via_open;
