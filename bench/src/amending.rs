@@ -3,16 +3,17 @@
 //! Each call makes the checks of the table in their order. Its first one, the limits of the state, is made on every call:
 //! one walk over the points and one over the versions held, which find out all else that a call asks of them.
 
-use crate::buffers::{lent, Buffers, REPORT};
+use crate::buffers::Buffers;
 use crate::cause::{
     are_deadlines, are_energies, is_point, is_version, refuse_if, Cause, LAST_DAY, LOG_ROW, POINTS,
     QUARTERS, VERSIONS,
 };
+use crate::replay::{self, Stores};
 use crate::row;
 use crate::series::{
     group_row, is_group, is_series, sides, Side, AREAS, BOOK_ROWS, DELTAS, GROUPS, ROWS,
 };
-use emorizugu_tests::message::{self, Call};
+use emorizugu_tests::message::Call;
 
 /// An active point.
 #[derive(Clone, Copy)]
@@ -133,13 +134,6 @@ struct Look {
     first: Option<Pick>,
     /// Run 2's own.
     second: Option<Pick>,
-}
-
-/// The stores lent to a call.
-struct Stores<'a> {
-    values: &'a mut [u64],
-    book: &'a mut [u64],
-    log: &'a mut [u64],
 }
 
 /// The desk's state.
@@ -541,59 +535,21 @@ impl Look {
     }
 }
 
+impl replay::Desk for Desk {
+    fn quarters(&self) -> u64 {
+        self.opening.quarters
+    }
+
+    fn handed(&mut self, call: &Call, series: &[u64], stores: &mut Stores) -> u64 {
+        self.call(call, series, stores)
+    }
+
+    fn ended(self, _: &mut [u64], _: &mut [u64]) -> (usize, usize) {
+        (self.used as usize, self.count as usize)
+    }
+}
+
 /// A whole message file through a fresh desk: 0, or the number of the refusal that ended it.
 pub fn replay(file: &[u8], buffers: &mut Buffers) -> u64 {
-    let Buffers {
-        values,
-        book,
-        log,
-        series,
-        answers,
-        report,
-    } = buffers;
-    if report.len() < REPORT {
-        return 2;
-    }
-    let mut desk = Desk::fresh();
-    let mut at = 0;
-    let mut answered = 0;
-    let result = loop {
-        if answered == answers.len() && at < file.len() as u64 {
-            at = 0;
-            break message::Cause::Room.number();
-        }
-        let call = match message::read(file, at, series) {
-            Ok(Some(call)) => call,
-            Ok(None) => break 0,
-            Err(refusal) => break refusal.cause.number(),
-        };
-        let quarters = match call.kind {
-            1 => call.fields[0],
-            _ => desk.opening.quarters,
-        };
-        let lent = lent(book, quarters);
-        let mut stores = Stores {
-            values,
-            book: &mut book[..lent],
-            log,
-        };
-        answers[answered] = desk.call(&call, &series[..call.count], &mut stores);
-        answered += 1;
-        at = call.next;
-    };
-    let Desk {
-        opening,
-        used,
-        count,
-        ..
-    } = desk;
-    let told = [
-        answered as u64,
-        at,
-        opening.quarters,
-        used as u64,
-        count as u64,
-    ];
-    report[..REPORT].copy_from_slice(&told);
-    result
+    replay::replay(Desk::fresh(), file, buffers)
 }

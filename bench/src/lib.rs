@@ -6,6 +6,7 @@
 //! | `amending` | a desk that amends its state and the book |
 //! | `plain` | a desk that keeps the accepted calls and works the book out anew at each |
 //! | `cause`, `series`, `row` | what the two share: causes and ranges, the table of series, a row of the book |
+//! | `replay` | a message file handed to one of the two |
 //! | `buffers` | what a replay is lent |
 //! | `compare` | desks compared on a file |
 //! | `months` | message files |
@@ -20,6 +21,7 @@ pub mod compare;
 pub mod linked;
 pub mod months;
 pub mod plain;
+pub mod replay;
 pub mod row;
 pub mod series;
 pub mod stack;

@@ -1,14 +1,15 @@
 //! The plain desk: it keeps the accepted calls and amends nothing. At each call it goes through them from the first
 //! one, and after an accepted one it works all figures of the book out from the selected versions.
 
-use crate::buffers::{lent, Buffers, REPORT};
+use crate::buffers::Buffers;
 use crate::cause::{
     are_deadlines, are_energies, is_point, is_version, refuse_if, Cause, LAST_DAY, LOG_ROW, POINTS,
     QUARTERS, VERSIONS,
 };
+use crate::replay::{self, Stores};
 use crate::row;
 use crate::series::{is_group, is_series, sides, AREAS, BOOK_ROWS, DELTAS, ROWS};
-use emorizugu_tests::message::{self, MOST_FIELDS};
+use emorizugu_tests::message::{Call, MOST_FIELDS};
 
 /// An accepted call, and the lengths of values, book and log.
 struct Accepted {
@@ -369,69 +370,41 @@ impl Desk {
         self.list.push(call);
         Ok(())
     }
+}
 
+impl replay::Desk for Desk {
     fn quarters(&self) -> u64 {
         self.list.first().map_or(0, |opening| opening.fields[0])
+    }
+
+    fn handed(&mut self, call: &Call, series: &[u64], stores: &mut Stores) -> u64 {
+        let asked = Accepted {
+            kind: call.kind,
+            fields: call.fields,
+            series: series.to_vec(),
+            lengths: [stores.values.len(), stores.book.len(), stores.log.len()],
+        };
+        let answer = self.call(asked, stores.book);
+        answer.map_or_else(|cause| cause as u64, |()| 0)
+    }
+
+    fn ended(self, values: &mut [u64], log: &mut [u64]) -> (usize, usize) {
+        let Some(month) = Month::of(&self.list) else {
+            return (0, 0);
+        };
+        for (place, row) in log.chunks_exact_mut(LOG_ROW).zip(&month.log) {
+            place.copy_from_slice(row);
+        }
+        let quarters = replay::Desk::quarters(&self) as usize;
+        for (place, version) in values.chunks_exact_mut(quarters).zip(&month.versions) {
+            place.copy_from_slice(version.series);
+        }
+        (month.log.len(), month.versions.len())
     }
 }
 
 /// A whole message file through a fresh desk: 0, or the number of the refusal that ended it. Values and log are written
 /// once, at the end.
 pub fn replay(file: &[u8], buffers: &mut Buffers) -> u64 {
-    let Buffers {
-        values,
-        book,
-        log,
-        series,
-        answers,
-        report,
-    } = buffers;
-    if report.len() < REPORT {
-        return 2;
-    }
-    let mut desk = Desk::default();
-    let mut at = 0;
-    let mut answered = 0;
-    let result = loop {
-        if answered == answers.len() && at < file.len() as u64 {
-            at = 0;
-            break message::Cause::Room.number();
-        }
-        let call = match message::read(file, at, series) {
-            Ok(Some(call)) => call,
-            Ok(None) => break 0,
-            Err(refusal) => break refusal.cause.number(),
-        };
-        let quarters = match call.kind {
-            1 => call.fields[0],
-            _ => desk.quarters(),
-        };
-        let lent = lent(book, quarters);
-        let asked = Accepted {
-            kind: call.kind,
-            fields: call.fields,
-            series: series[..call.count].to_vec(),
-            lengths: [values.len(), lent, log.len()],
-        };
-        let answer = desk.call(asked, &mut book[..lent]);
-        answers[answered] = answer.map_or_else(|cause| cause as u64, |()| 0);
-        answered += 1;
-        at = call.next;
-    };
-    let quarters = desk.quarters();
-    let (mut used, mut count) = (0, 0);
-    if let Some(month) = Month::of(&desk.list) {
-        used = month.log.len();
-        count = month.versions.len();
-        for (place, row) in log.chunks_exact_mut(LOG_ROW).zip(&month.log) {
-            place.copy_from_slice(row);
-        }
-        let rows = values.chunks_exact_mut(quarters as usize);
-        for (place, version) in rows.zip(&month.versions) {
-            place.copy_from_slice(version.series);
-        }
-    }
-    let told = [answered as u64, at, quarters, used as u64, count as u64];
-    report[..REPORT].copy_from_slice(&told);
-    result
+    replay::replay(Desk::default(), file, buffers)
 }

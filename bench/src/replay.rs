@@ -1,0 +1,72 @@
+//! A message file handed to a desk in Rust, call after call.
+
+use crate::buffers::{lent, Buffers, REPORT};
+use emorizugu_tests::message::{self, Call};
+
+/// The stores lent to a call.
+pub struct Stores<'a> {
+    /// The values.
+    pub values: &'a mut [u64],
+    /// The book's first figures.
+    pub book: &'a mut [u64],
+    /// The log.
+    pub log: &'a mut [u64],
+}
+
+/// A desk that is handed the calls of a file.
+pub trait Desk {
+    /// Q; 0 before the opening.
+    fn quarters(&self) -> u64;
+
+    /// A call with its energies: its answer's number.
+    fn handed(&mut self, call: &Call, series: &[u64], stores: &mut Stores) -> u64;
+
+    /// Log rows used and versions held at the end; what the desk writes only then goes to values and log.
+    fn ended(self, values: &mut [u64], log: &mut [u64]) -> (usize, usize);
+}
+
+/// A whole message file through a fresh desk: 0, or the number of the refusal that ended it.
+pub fn replay(mut desk: impl Desk, file: &[u8], buffers: &mut Buffers) -> u64 {
+    let Buffers {
+        values,
+        book,
+        log,
+        series,
+        answers,
+        report,
+    } = buffers;
+    if report.len() < REPORT {
+        return 2;
+    }
+    let mut at = 0;
+    let mut answered = 0;
+    let result = loop {
+        if answered == answers.len() && at < file.len() as u64 {
+            at = 0;
+            break message::Cause::Room.number();
+        }
+        let call = match message::read(file, at, series) {
+            Ok(Some(call)) => call,
+            Ok(None) => break 0,
+            Err(refusal) => break refusal.cause.number(),
+        };
+        let quarters = match call.kind {
+            1 => call.fields[0],
+            _ => desk.quarters(),
+        };
+        let lent = lent(book, quarters);
+        let mut stores = Stores {
+            values,
+            book: &mut book[..lent],
+            log,
+        };
+        answers[answered] = desk.handed(&call, &series[..call.count], &mut stores);
+        answered += 1;
+        at = call.next;
+    };
+    let quarters = desk.quarters();
+    let (used, held) = desk.ended(values, log);
+    let told = [answered as u64, at, quarters, used as u64, held as u64];
+    report[..REPORT].copy_from_slice(&told);
+    result
+}
