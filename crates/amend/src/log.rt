@@ -6,8 +6,7 @@ use model::LogRow;
 use state::Selection;
 use state::selections::version_of;
 ghost use mathlib.Core.Path.{_≡_};
-ghost use Prim.Native.Nat.{_+_, _*_, _≤_};
-ghost use lib.ListN.{length};
+ghost use Prim.Native.Nat.{_+_, _*_};
 ghost use Rattle.model.specs.Log.{logRow, dueBy, logged, usedAfter};
 ghost use Rattle.amend.specs.Lent.{RoomIn, MoreIn};
 

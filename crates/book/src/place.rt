@@ -1,7 +1,6 @@
 // Where a run's row stands in the book.
 use quantity::limits::RUN_ROWS;
 ghost use mathlib.Core.Path.{_≡_};
-ghost use Prim.Native.Nat.{_+_, _*_, _<_, _≤_};
 ghost use Rattle.book.specs.Place.{rowStart, IsRow};
 
 pub fn row_start(run: usize, k: usize, q: usize) -> usize

@@ -4,7 +4,6 @@ use crate::text::put_field;
 use crate::text::put_figure;
 use crate::text::put_number;
 use quantity::WattHours;
-ghost use mathlib.Core.Path.{_≡_};
 ghost use Prim.Native.Nat.{_≤_};
 ghost use lib.ListN.{length};
 ghost use Rattle.emorizugu.specs.Line.{Line, answerLine, refusalLine, groupLine, totalLine};

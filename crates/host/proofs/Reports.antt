@@ -1,16 +1,15 @@
 -- The report of a replay. Assumes nothing.
 use Prim.Native.Nat.{ℕ, _≤_, _<_}
-use mathlib.Core.Path.{_≡_, refl, sym, ap, _∙_}
+use mathlib.Core.Path.{_≡_, refl, ap, _∙_}
 use mathlib.Core.List.{List, [], _∷_}
 use native.Mathlib.Omega.{arith}
 use lib.ListN.{length, set}
-use Rattle.message.specs.File.{callsIn}
-use Rattle.model.specs.Call.{Stores, Told}
-use Rattle.model.specs.Plain.{openingOf, versionsOf, logOf, viewIn, plainEnd}
+use Rattle.model.specs.Call.{Stores}
+use Rattle.model.specs.Plain.{viewIn}
 use Rattle.model.specs.View.{View}
-use Rattle.replay.specs.Replay.{callsFor, endingOf, toldOf, over, Replays}
+use Rattle.replay.specs.Replay.{over, Replays}
 use Rattle.replay.specs.declared.Replayed.{Replayed}
-use Rattle.host.specs.Replay.{endingNumber, endingOffset, places, listed, reportOf, Kept, Runs, Reported}
+use Rattle.host.specs.Replay.{endingNumber, endingOffset, places, listed, Reported}
 
 -- five places filled, one after the other
 pub five-set : (l : List ℕ) (a b c d e : ℕ) → places ≤ length l → set (set (set (set (set l 0 a) 1 b) 2 c) 3 d) 4 e ≡ over (listed a b c d e) l

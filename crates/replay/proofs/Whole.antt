@@ -1,6 +1,6 @@
 -- A file that was run is replayed: its calls have room for their answers, and what they leave is the plain desk's. Assumes nothing.
 use Prim.Native.Nat.{ℕ, _≤_}
-use mathlib.Core.Path.{_≡_, sym, ap, _∙_, subst}
+use mathlib.Core.Path.{sym, ap, _∙_, subst}
 use mathlib.Core.List.{List, []}
 use native.Mathlib.Nat.{min-le-left}
 use lib.ListN.{length, length-take}
