@@ -62,8 +62,8 @@ pub fn read_number(file: &[u8], at: usize) -> NumberRead
     read_more(file, at + 1, b % 128)
 }
 
-// The offset behind n numbers.
-pub fn pass_numbers(file: &[u8], at: usize, n: usize) -> Passed
+// The offset behind n numbers, from an offset in the file.
+fn pass_from(file: &[u8], at: usize, n: usize) -> Passed
     requires { ⌜ at ≤ length (now file) ⌝ }
     ensures { λ r. ⌜ r ≡ passedOf (length (now (file .entry))) (numbersIn n (drop at (now (file .entry)))) ⌝ }
 {
@@ -81,4 +81,14 @@ pub fn pass_numbers(file: &[u8], at: usize, n: usize) -> Passed
         i += 1;
     }
     Passed::To(j)
+}
+
+// The offset behind n numbers; an offset beyond the file's end counts as the end.
+pub fn pass_numbers(file: &[u8], at: usize, n: usize) -> Passed
+    ensures { λ r. ⌜ r ≡ passedOf (length (now (file .entry))) (numbersIn n (drop at (now (file .entry)))) ⌝ }
+{
+    if file.len() < at {
+        return pass_from(file, file.len(), n);
+    }
+    pass_from(file, at, n)
 }

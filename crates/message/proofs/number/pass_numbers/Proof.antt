@@ -1,57 +1,30 @@
--- `pass_numbers` meets its contract: as many numbers as were passed. Assumes nothing.
+-- `pass_numbers` meets its contract: beyond the end there is nothing, as at the end. Assumes nothing.
+use mathlib.Core.Path.{sym, ap, _∙_}
+use mathlib.Core.List.{List}
+use Prim.Native.Nat.{ℕ}
+use native.Mathlib.Omega.{arith}
+use lib.ListN.{length, drop-of-length-le}
+use Rattle.message.specs.Number.{numbersIn}
+use Rattle.message.specs.Offset.{passedOf}
 use borrow.Author.Needs.{needs}
-use Prim.Native.Nat.{ℕ, _-_}
-use mathlib.Core.Path.{sym, _∙_}
-use mathlib.Core.List.{List, []}
-use Rattle.message.proofs.Passing.{Passing, started, one-more, passed, not-passed}
 use Rattle.message.proofs.number.pass_numbers.Statement.{statement}
 use Rattle.message.proofs.number.pass_numbers.Tie as tie
 
-abbrev Inv-loop : tie.InvT-loop
-Inv-loop file at n j₀ i₀ j i = (vs : List ℕ) × Passing file at n j i vs
+pass-from-requires : tie.Need-pass-from-requires
+pass-from-requires c κs = search needs
 
-abbrev μ-loop : tie.MeasureT-loop
-μ-loop file at n j₀ i₀ j i = n - i
+returns : tie.Need-returns
+returns c =
+    let a = c .before .before .before .args in
+    let s = a .file .now in
+    c .pass-from .ensures
+    ∙ ap (λ (l : List ℕ). passedOf (length s) (numbersIn (a .n) l)) (drop-of-length-le s {i = length s} (omega arith) ∙ sym (drop-of-length-le s {i = a .at} (omega (arith, c .before .if1 .taken))))
 
-loop-holds : tie.Need-loop-holds Inv-loop μ-loop
-loop-holds c = ([], started _ _ _ (c .before .pre))
+pass-from-requires-2 : tie.Need-pass-from-requires-2
+pass-from-requires-2 c κs = search needs
 
-read-number-requires : tie.Need-read-number-requires Inv-loop μ-loop
-read-number-requires c κs = search needs
-
-enum-known-next : tie.Need-enum-known-next Inv-loop μ-loop
-enum-known-next c = search needs
-
-enum-known-cause : tie.Need-enum-known-cause Inv-loop μ-loop
-enum-known-cause c = search needs
-
-returns : tie.Need-returns Inv-loop μ-loop
-returns c = not-passed (c .before .before .before .before .before .loop .inv .1) (c .before .before .before .before .loop-test .taken) (sym (c .before .before .before .read-number .ensures) ∙ c .before .cause .given .1)
-
-add-i : tie.Need-add-i Inv-loop μ-loop
-add-i c = search needs
-
-loop-less : tie.Need-loop-less Inv-loop μ-loop
-loop-less c = search needs
-
-loop-again : tie.Need-loop-again Inv-loop μ-loop
-loop-again c = (_, one-more (c .before .before .before .before .before .loop .inv .1) (c .before .before .before .before .loop-test .taken) (sym (c .before .before .before .read-number .ensures) ∙ c .before .next .given .1))
-
-returns-2 : tie.Need-returns-2 Inv-loop μ-loop
-returns-2 c = passed (c .before .loop .inv .1) (c .loop-test .left)
+returns-2 : tie.Need-returns-2
+returns-2 c = search needs
 
 pub pass-numbers-spec : {M : Type 1} → statement M
-pass-numbers-spec =
-    tie.close
-    (tie.spec
-    Inv-loop
-    μ-loop
-    loop-holds
-    read-number-requires
-    enum-known-next
-    enum-known-cause
-    returns
-    add-i
-    loop-less
-    loop-again
-    returns-2)
+pass-numbers-spec = tie.close (tie.spec pass-from-requires returns pass-from-requires-2 returns-2)
