@@ -7,7 +7,7 @@ use lib.ListN.{length, take, getD}
 use Rattle.quantity.proofs.Lists.{all-none, all-more}
 use Rattle.state.proofs.Lists.{walk-none, walk-more}
 use Rattle.state.specs.Selection.{raiseIf, best, isCounted}
-use Rattle.lookup.specs.Survey.{surveyStep, Surveyed}
+use Rattle.lookup.specs.Survey.{fitted, surveyStep, Surveyed}
 use Rattle.state.specs.Valid.{versionRecordOk}
 use Rattle.state.specs.Version.{emptyVersion, isAt, orHeld, held}
 use Rattle.state.specs.declared.Held.{Held}
@@ -28,10 +28,10 @@ module _ (rows p x : ℕ) (vs : List VersionRecord) where
         second = walk-none (raiseIf (isCounted 2 p)) None vs;
       }
 
-  pub found-more : (s : Survey) (i : ℕ) → i < length vs → Surveyed rows p x (take i vs) s
-      → Surveyed rows p x (take (i + 1) vs) (surveyStep rows p x s i (getD vs i emptyVersion))
+  pub found-more : (b : Bool) (s : Survey) (i : ℕ) → i < length vs → Surveyed rows p x (take i vs) (fitted b s)
+      → Surveyed rows p x (take (i + 1) vs) (fitted (b && versionRecordOk rows (getD vs i emptyVersion)) (surveyStep p x s i (getD vs i emptyVersion)))
   unfolding best held
-  found-more s i h f =
+  found-more b s i h f =
       record {
         fit = rw (f .fit) (all-more (versionRecordOk rows) vs i emptyVersion h);
         held = rw (f .held) (walk-more (orHeld p x) Absent vs i emptyVersion h);
@@ -45,6 +45,5 @@ other-held : (p x i : ℕ) (v : VersionRecord) (h : Held) → isAt p v ≡ false
 other-held p x i v Absent e = rw e
 other-held p x i v (Has j s) e = refl
 
-pub other-point : (rows p x : ℕ) (s : Survey) (i : ℕ) (v : VersionRecord) {fit : Bool} → isAt p v ≡ false → fit ≡ (s .fit && versionRecordOk rows v)
-    → record { fit = fit; held = s .held; highest = s .highest; first = s .first; second = s .second } ≡ surveyStep rows p x s i v
-other-point rows p x s i v e f = let h = other-held p x i v (s .held) e in rw (f, ← h, e)
+pub other-point : (p x : ℕ) (s : Survey) (i : ℕ) (v : VersionRecord) → isAt p v ≡ false → s ≡ surveyStep p x s i v
+other-point p x s i v e = let h = other-held p x i v (s .held) e in rw (← h, e)

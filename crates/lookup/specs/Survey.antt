@@ -1,7 +1,7 @@
 -- What one walk over the versions and one over the points find, each part by its own definition.
 use Prim.Native.Nat.{ℕ}
 use mathlib.Core.Path.{_≡_}
-use mathlib.Core.Bool.{_&&_}
+use mathlib.Core.Bool.{Bool}
 use mathlib.Core.List.{List}
 use Rattle.quantity.specs.Lists.{all, any}
 use Rattle.state.specs.Point.{hasSeries}
@@ -21,11 +21,15 @@ pub record Surveyed (rows point version : ℕ) (vs : List VersionRecord) (s : Su
   pub first : s .first ≡ own 1 point vs
   pub second : s .second ≡ own 2 point vs
 
+-- the same of another test of the records
+abbrev pub fitted : Bool → Survey → Survey
+fitted b s = record { fit = b; held = s .held; highest = s .highest; first = s .first; second = s .second }
+
 -- one record more
-abbrev pub surveyStep : (rows point version : ℕ) → Survey → (at : ℕ) → VersionRecord → Survey
-surveyStep n p x s i v =
+abbrev pub surveyStep : (point version : ℕ) → Survey → (at : ℕ) → VersionRecord → Survey
+surveyStep p x s i v =
     record {
-      fit = s .fit && versionRecordOk n v;
+      fit = s .fit;
       held = orHeld p x (s .held) i v;
       highest = raiseIf (isAt p) (s .highest) i v;
       first = raiseIf (isCounted 1 p) (s .first) i v;

@@ -31,16 +31,9 @@ pub fn or_held(held: Held, at: u64, v: VersionRecord, point: PointNo, version: V
     }
 }
 
-// One record of the point more.
-fn surveyed_here(
-    s: Survey,
-    at: u64,
-    v: VersionRecord,
-    rows: u64,
-    point: PointNo,
-    version: Version,
-) -> Survey
-    ensures { λ r. ⌜ r ≡ surveyStep rows (point .0) (version .0) s at v ⌝ }
+// One record of the point more. Whether it fits is asked apart.
+fn surveyed(s: Survey, at: u64, v: VersionRecord, point: PointNo, version: Version) -> Survey
+    ensures { λ r. ⌜ r ≡ surveyStep (point .0) (version .0) s at v ⌝ }
 {
     let held = s.held;
     let highest = s.highest;
@@ -48,7 +41,7 @@ fn surveyed_here(
     let second = s.second;
     let number = v.version;
     Survey {
-        fit: s.fit & version_record_ok(v, rows),
+        fit: s.fit,
         held: or_held(held, at, v, point, version),
         highest: raised_if(is_at(v, point), highest, at, number),
         first: raised_if(is_counted(v, 1, point), first, at, number),
@@ -56,34 +49,7 @@ fn surveyed_here(
     }
 }
 
-// One record more; another point's is only asked whether it fits.
-pub fn surveyed(
-    s: Survey,
-    at: u64,
-    v: VersionRecord,
-    rows: u64,
-    point: PointNo,
-    version: Version,
-) -> Survey
-    ensures { λ r. ⌜ r ≡ surveyStep rows (point .0) (version .0) s at v ⌝ }
-{
-    if is_at(v, point) {
-        return surveyed_here(s, at, v, rows, point, version);
-    }
-    let held = s.held;
-    let highest = s.highest;
-    let first = s.first;
-    let second = s.second;
-    Survey {
-        fit: s.fit & version_record_ok(v, rows),
-        held,
-        highest,
-        first,
-        second,
-    }
-}
-
-// A count above 512 means the whole table.
+// A record of another point is only asked whether it fits. A count above 512 means the whole table.
 pub fn survey(
     versions: [VersionRecord; 512],
     count: u64,
@@ -93,6 +59,7 @@ pub fn survey(
 ) -> Survey
     ensures { λ r. ⌜ Surveyed rows (point .0) (version .0) (take count versions) r ⌝ }
 {
+    let mut fit = true;
     let mut s = Survey {
         fit: true,
         held: Held::Absent,
@@ -103,7 +70,11 @@ pub fn survey(
     let n = if count < 512 { count as usize } else { 512 };
     for i in 0..n {
         let v = versions[i];
-        s = surveyed(s, i as u64, v, rows, point, version);
+        fit = fit & version_record_ok(v, rows);
+        if is_at(v, point) {
+            s = surveyed(s, i as u64, v, point, version);
+        }
     }
+    s.fit = fit;
     s
 }

@@ -1,30 +1,52 @@
--- `surveyed` meets its contract. Assumes nothing.
-use mathlib.Core.Path.{sym, _∙_, ap}
-use mathlib.Core.Bool.{_&&_}
-use Rattle.lookup.proofs.Found.{other-point}
+-- `surveyed` meets its contract, part by part. Assumes nothing.
 use borrow.Author.Needs.{needs}
 use Rattle.lookup.proofs.surveys.surveyed.Statement.{statement}
 use Rattle.lookup.proofs.surveys.surveyed.Tie as tie
 
+or-held-requires : tie.Need-or-held-requires
+or-held-requires c κs = search needs
+
 is-at-requires : tie.Need-is-at-requires
 is-at-requires c κs = search needs
 
-surveyed-here-requires : tie.Need-surveyed-here-requires
-surveyed-here-requires c κs = search needs
+raised-if-requires : tie.Need-raised-if-requires
+raised-if-requires c κs = search needs
+
+is-counted-requires : tie.Need-is-counted-requires
+is-counted-requires c κs = search needs
+
+raised-if-requires-2 : tie.Need-raised-if-requires-2
+raised-if-requires-2 c κs = search needs
+
+is-counted-requires-2 : tie.Need-is-counted-requires-2
+is-counted-requires-2 c κs = search needs
+
+raised-if-requires-3 : tie.Need-raised-if-requires-3
+raised-if-requires-3 c κs = search needs
 
 returns : tie.Need-returns
-returns c = search needs
-
-version-record-ok-requires : tie.Need-version-record-ok-requires
-version-record-ok-requires c κs = search needs
-
-returns-2 : tie.Need-returns-2
-returns-2 c =
-    let s = c .before .before .before in
-    let a = s .before .args in
-    other-point (a .rows) (a .point .0) (a .version .0) (a .s) (a .at) (a .v) (sym (s .is-at .ensures) ∙ c .before .before .if1 .left) (ap (λ t. a .s .fit && t) (c .before .version-record-ok .ensures))
+returns c = let c2 = c .before .before in
+    let c1 = c2 .before .before in
+    let c0 = c1 .before .before in
+    rw (
+      c .raised-if3 .ensures,
+      c .before .is-counted2 .ensures,
+      c2 .raised-if2 .ensures,
+      c2 .before .is-counted .ensures,
+      c1 .raised-if .ensures,
+      c1 .before .is-at .ensures,
+      c0 .or-held .ensures,
+    )
 
 pub surveyed-spec : {M : Type 1} → statement M
 surveyed-spec =
     tie.close
-    (tie.spec is-at-requires surveyed-here-requires returns version-record-ok-requires returns-2)
+    (tie.spec
+    or-held-requires
+    is-at-requires
+    raised-if-requires
+    is-counted-requires
+    raised-if-requires-2
+    is-counted-requires-2
+    raised-if-requires-3
+    returns)
