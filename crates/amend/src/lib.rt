@@ -14,7 +14,7 @@ pub struct Turn {
     pub new2: state::Selection,
 }
 
-// The rows of values of the versions selected, before and after, for run 1 and run 2.
+// The rows of values of a turn's selections; any number where there is none.
 pub struct ValueRows {
     pub old1: u64,
     pub new1: u64,

@@ -1,11 +1,15 @@
-// What accepted calls make of the state: one thing changed, all else as it was.
+// What accepted calls make of the desk: one thing changed, all else as it was.
+use crate::Effect;
+use crate::Tables;
+use crate::effects::keeping;
+use crate::effects::unchanged;
 use quantity::Day;
 use quantity::PointNo;
 use quantity::Version;
 use state::Area;
 use state::Desk;
-use state::Held;
 use state::Kind;
+use state::Opening;
 use state::Partner;
 use state::PointRecord;
 use state::PointState;
@@ -15,18 +19,18 @@ use state::ShortDay;
 use state::ShortPoint;
 use state::Status;
 use state::VersionRecord;
-use state::statuses::confirmed_status;
-use state::statuses::is_check;
 use state::statuses::submitted_status;
 ghost use mathlib.Core.Path.{_≡_};
 ghost use mathlib.Core.Bool.{true};
 ghost use Prim.Native.Nat.{_<_};
 ghost use lib.ListN.{set};
-ghost use Rattle.quantity.specs.Limits.{versions, dayOk, pointOk};
-ghost use Rattle.state.specs.Change.{submittedDesk, noticedDesk};
-ghost use Rattle.state.specs.Desk.{rowsUsed, onDay, withGroups, withPoints, withUsed, withSettled, flagged};
+ghost use Rattle.quantity.specs.Limits.{versions, deltas, dayOk, pointOk};
+ghost use Rattle.state.specs.Change.{settledDesk};
+ghost use Rattle.state.specs.Desk.{openDesk, onDay, withGroups, withPoints, withVersions, withUsed, withSettled, flagged};
 ghost use Rattle.state.specs.Point.{activePoint, withPoint, seriesOk};
+ghost use Rattle.state.specs.Valid.{validDesk};
 ghost use Rattle.state.specs.Version.{newVersion, restatus};
+ghost use Rattle.change.specs.Effect.{changedBy, Fits};
 
 // An active point's record: its numbers are in range, and so are narrowed with no loss.
 pub fn active_record(kind: u64, area: u64, partner: u64, day: Day) -> PointRecord
@@ -48,23 +52,88 @@ pub fn active_record(kind: u64, area: u64, partner: u64, day: Day) -> PointRecor
     }
 }
 
-pub fn with_point(d: Desk, point: PointNo, p: PointRecord) -> Desk
-    ensures { λ r. ⌜ r ≡ withPoints d (withPoint (d .points) (point .0) p) ⌝ }
+// An activation or a deactivation: point p stands at index p - 1.
+pub fn put_point(d: Desk, point: PointNo, p: PointRecord, day: Day) -> Effect
+    requires { ⌜ pointOk (point .0) ≡ true ⌝ }
+    ensures { λ r. ⌜ Fits d r × (changedBy d r ≡ onDay (withPoints d (withPoint (d .points) (point .0) p)) (day .0)) ⌝ }
 {
-    let number = point.0;
-    if number == 0 {
-        return d;
-    }
-    if 256 < number {
-        return d;
-    }
-    let i = (number - 1) as usize;
-    let mut n = d;
-    n.points[i] = p;
-    n
+    let tables = Tables::Point {
+        at: point.0 - 1,
+        record: p,
+    };
+    let mut e = keeping(d, tables);
+    e.day = day;
+    e
 }
 
-fn new_version(first: Day, row: u64, point: PointNo, version: Version, day: Day) -> VersionRecord
+// A version's record put, so many held, and so many rows of the log used.
+pub fn put_version(d: Desk, at: u64, v: VersionRecord, count: u64, used: u64, day: Day) -> Effect
+    requires { ⌜ at < versions ⌝ }
+    ensures { λ r. ⌜ Fits d r × (changedBy d r ≡ onDay (withUsed (withVersions d count (set (d .versions) at v)) used) (day .0)) ⌝ }
+{
+    let tables = Tables::Version { at, record: v };
+    let mut e = keeping(d, tables);
+    e.count = count;
+    e.used = used;
+    e.day = day;
+    e
+}
+
+// A delta's group: area 0 is T.
+pub fn put_group(d: Desk, area: u64, group: u64, day: Day) -> Effect
+    requires { ⌜ area < deltas ⌝ }
+    ensures { λ r. ⌜ Fits d r × (changedBy d r ≡ onDay (withGroups d (set (d .groups) area group)) (day .0)) ⌝ }
+{
+    let mut groups = d.groups;
+    groups[area as usize] = group;
+    let mut e = unchanged(d);
+    e.groups = groups;
+    e.day = day;
+    e
+}
+
+// The run's flag is set, and its versions are settled.
+pub fn settle_run(d: Desk, run: u64, day: Day) -> Effect
+    requires { ⌜ validDesk d ≡ true ⌝ }
+    ensures { λ r. ⌜ Fits d r × (changedBy d r ≡ onDay (withSettled (settledDesk d run) (flagged run (d .settled))) (day .0)) ⌝ }
+{
+    let settled = d.settled;
+    let flags = Runs {
+        first: (run == 1) | settled.first,
+        second: (run == 2) | settled.second,
+    };
+    let tables = Tables::Settled { run };
+    let mut e = keeping(d, tables);
+    e.settled = flags;
+    e.day = day;
+    e
+}
+
+// The desk made anew.
+pub fn open_desk(d: Desk, opening: Opening, groups: [u64; 17]) -> Effect
+    ensures { λ r. ⌜ Fits d r × (changedBy d r ≡ openDesk opening groups) ⌝ }
+{
+    Effect {
+        tables: Tables::Fresh,
+        opening,
+        day: Day(0),
+        groups,
+        count: 0,
+        used: 0,
+        settled: Runs {
+            first: false,
+            second: false,
+        },
+    }
+}
+
+pub fn new_version(
+    first: Day,
+    row: u64,
+    point: PointNo,
+    version: Version,
+    day: Day,
+) -> VersionRecord
     requires { ⌜ pointOk (point .0) ≡ true ⌝ }
     requires { ⌜ row < versions ⌝ }
     ensures { λ r. ⌜ r ≡ newVersion (first .0) row (point .0) (version .0) (day .0) ⌝ }
@@ -76,21 +145,6 @@ fn new_version(first: Day, row: u64, point: PointNo, version: Version, day: Day)
         row: Row(row as u16),
         status,
     }
-}
-
-// A version more, at the next unused row of values.
-pub fn with_version(d: Desk, point: PointNo, version: Version, day: Day) -> Desk
-    requires { ⌜ pointOk (point .0) ≡ true ⌝ }
-    requires { ⌜ d .count < versions ⌝ }
-    ensures { λ r. ⌜ r ≡ submittedDesk d (newVersion (d .opening .first .0) (rowsUsed d) (point .0) (version .0) (day .0)) ⌝ }
-{
-    let opening = d.opening;
-    let first = opening.first;
-    let i = d.count as usize;
-    let mut n = d;
-    n.versions[i] = new_version(first, d.count, point, version, day);
-    n.count = d.count + 1;
-    n
 }
 
 pub fn restated(v: VersionRecord, status: Status) -> VersionRecord
@@ -105,72 +159,4 @@ pub fn restated(v: VersionRecord, status: Status) -> VersionRecord
         row,
         status,
     }
-}
-
-// A notice on the version found.
-pub fn with_notice(d: Desk, held: Held, verdict: u64, day: Day) -> Desk
-    ensures { λ r. ⌜ r ≡ noticedDesk d held verdict (day .0) ⌝ }
-{
-    let Held::Has { at, status } = held else {
-        return d;
-    };
-    if verdict != 1 {
-        return d;
-    }
-    if !is_check(status) {
-        return d;
-    }
-    if 512 <= at {
-        return d;
-    }
-    let opening = d.opening;
-    let clearing = opening.clearing;
-    let i = at as usize;
-    let v = d.versions[i];
-    let mut n = d;
-    n.versions[i] = restated(v, confirmed_status(clearing, day));
-    n
-}
-
-// A delta's group: area 0 is T.
-pub fn with_group(d: Desk, area: u64, group: u64) -> Desk
-    ensures { λ r. ⌜ r ≡ withGroups d (set (d .groups) area group) ⌝ }
-{
-    if 17 <= area {
-        return d;
-    }
-    let i = area as usize;
-    let mut n = d;
-    n.groups[i] = group;
-    n
-}
-
-pub fn on_day(d: Desk, day: Day) -> Desk
-    ensures { λ r. ⌜ r ≡ onDay d (day .0) ⌝ }
-{
-    let mut n = d;
-    n.day = day;
-    n
-}
-
-pub fn with_used(d: Desk, used: u64) -> Desk
-    ensures { λ r. ⌜ r ≡ withUsed d used ⌝ }
-{
-    let mut n = d;
-    n.used = used;
-    n
-}
-
-// The run's flag is set.
-pub fn with_settled(d: Desk, run: u64) -> Desk
-    ensures { λ r. ⌜ r ≡ withSettled d (flagged run (d .settled)) ⌝ }
-{
-    let settled = d.settled;
-    let flags = Runs {
-        first: (run == 1) | settled.first,
-        second: (run == 2) | settled.second,
-    };
-    let mut n = d;
-    n.settled = flags;
-    n
 }

@@ -1,3 +1,30 @@
-// What accepted calls make of the state: one thing changed, all else as it was; and a settle over the whole version table.
+// What calls make of the state: at most one record of a table and what stands beside the tables; a settle goes over the whole version table.
 pub mod changes;
+pub mod effects;
 pub mod settling;
+
+use quantity::Day;
+use state::Opening;
+use state::PointRecord;
+use state::Runs;
+use state::VersionRecord;
+
+// What becomes of the two tables: both are made anew, one record of one of them is put, or the versions are settled in a run.
+pub enum Tables {
+    Same,
+    Fresh,
+    Point { at: u64, record: PointRecord },
+    Version { at: u64, record: VersionRecord },
+    Settled { run: u64 },
+}
+
+// The tables, and all else of the desk after the call.
+pub struct Effect {
+    pub tables: Tables,
+    pub opening: Opening,
+    pub day: Day,
+    pub groups: [u64; 17],
+    pub count: u64,
+    pub used: u64,
+    pub settled: Runs,
+}

@@ -1,18 +1,16 @@
 // Settle over the whole version table, in two passes: the highest version that counts for each point, then exactly those restated.
 use crate::changes::restated;
-use state::Desk;
 use state::VersionRecord;
 use state::statuses::counts_in;
 use state::statuses::settled_status;
 ghost use mathlib.Core.Path.{_≡_};
-ghost use mathlib.Core.Bool.{true, cond, _&&_};
+ghost use mathlib.Core.Bool.{cond, _&&_};
 ghost use Prim.Native.Nat.{_≤_};
 ghost use lib.Dec.{ltb};
 ghost use lib.ListN.{take, replicate};
 ghost use Rattle.quantity.specs.Limits.{points};
-ghost use Rattle.state.specs.Change.{settledDesk, settleBy, settle};
+ghost use Rattle.state.specs.Change.{settleBy, settle};
 ghost use Rattle.change.specs.Settling.{PointsIn, Tops};
-ghost use Rattle.state.specs.Valid.{validDesk};
 ghost use Rattle.state.specs.Walk.{mapFirst};
 
 // The higher of two versions, where the second counts.
@@ -76,7 +74,7 @@ fn restate(
     let mut vs = versions;
     let n = count as usize;
     for i in 0..n {
-        let v = versions[i];
+        let v = vs[i];
         let k = (v.point.0 - 1) as usize;
         vs[i] = settled_record(v, run, tops[k]);
     }
@@ -84,14 +82,15 @@ fn restate(
 }
 
 // Run 1: each selected version gets 3. Run 2: each own one gets 5.
-pub fn with_run_settled(d: Desk, run: u64) -> Desk
-    requires { ⌜ validDesk d ≡ true ⌝ }
-    ensures { λ r. ⌜ r ≡ settledDesk d run ⌝ }
+pub fn settled_versions(
+    versions: [VersionRecord; 512],
+    count: u64,
+    run: u64,
+) -> [VersionRecord; 512]
+    requires { ⌜ count ≤ 512 ⌝ }
+    requires { ⌜ PointsIn (take count versions) ⌝ }
+    ensures { λ r. ⌜ r ≡ mapFirst count (settle run (take count versions)) versions ⌝ }
 {
-    let versions = d.versions;
-    let table = tops(versions, d.count, run);
-    let settled = restate(versions, d.count, run, table);
-    let mut n = d;
-    n.versions = settled;
-    n
+    let table = tops(versions, count, run);
+    restate(versions, count, run, table)
 }

@@ -6,8 +6,8 @@ use Prim.Native.Nat.{ℕ, suc, _+_, _*_, _^_, _≤_, _<_}
 use native.Mathlib.Omega.{arith}
 use borrow.Author.Tests.{eq-eqb, eqb-true, lt-ltb, ltb-false, leb-false, not-false}
 use lib.Dec.{leb, eqb}
-use lib.ListN.{length, getD, drop, drop-of-length-le, length-map}
-use lib.Seq.{take-all}
+use lib.ListN.{length, getD, drop, drop-of-length-le, length-append, length-map, List·getD-append}
+use lib.Seq.{take-all, getD-at}
 use Rattle.quantity.specs.Limits.{versions, versionOk, pointOk, dayOk}
 use Rattle.quantity.specs.Lists.{all}
 use Rattle.quantity.specs.Word.{word, signed}
@@ -17,23 +17,29 @@ use Rattle.quantity.proofs.Tests.{and-left, and-right, or-left, or-right}
 use Rattle.quantity.proofs.Words.{word-signed}
 use Rattle.book.specs.Row.{part}
 use Rattle.state.specs.Change.{submitted}
+use Rattle.state.specs.Point.{pointAt}
 use Rattle.state.specs.Desk.{versionsIn, rowsIn}
 use Rattle.state.specs.Selection.{own, raise, isCounted}
 use Rattle.state.specs.Status.{counts, submittedStatus}
 use Rattle.state.specs.Valid.{versionRecordOk, validDesk, Sound}
-use Rattle.state.specs.Version.{newVersion}
+use Rattle.state.specs.Version.{emptyVersion, newVersion}
 use Rattle.state.specs.declared.Desk.{Desk}
 use Rattle.state.specs.declared.Selection.{Selection}
+use Rattle.state.specs.declared.Selection.the-variants.{None, Selected}
+use Rattle.state.specs.declared.VersionRecord.{VersionRecord}
 use Rattle.state.proofs.Bounds.{sound}
 use Rattle.state.proofs.Picks.{best-last}
-use Rattle.lookup.specs.Survey.{Surveyed}
+use Rattle.state.specs.declared.PointState.{PointState}
+use Rattle.lookup.specs.Survey.{Surveyed, RowAt, RowFor, RowsFound}
 use Rattle.lookup.specs.declared.Survey.{Survey}
 use Rattle.model.specs.Causes.{logFull}
 use Rattle.model.specs.Log.{due}
 use Rattle.model.specs.Step.{versionBy, refusalBy}
 use Rattle.model.specs.declared.Verdict.the-variants.{Fine}
 use Rattle.model.proofs.Rules.{passed}
+use Rattle.amend.specs.Rows.{RowsFor, rowsAfter}
 use Rattle.amend.specs.declared.Turn.{Turn}
+use Rattle.amend.proofs.Selected.{raised-row}
 use Rattle.follow.specs.Fit.{Turned}
 use Rattle.follow.proofs.Lent.{lengths, room, sizes}
 use Rattle.follow.proofs.Turns.{length-held, turned-due}
@@ -55,6 +61,34 @@ module _ (d : Desk) (p day : ℕ) (version : Version) (s : Survey) (t : Turn) (f
         new1 = g .new1 ∙ one-run 1 (s .first) (f .first);
         old2 = g .old2 ∙ f .second;
         new2 = g .new2 ∙ one-run 2 (s .second) (f .second);
+      }
+
+  -- the rows of the selections found stay, and the new version has its own
+  kept-row : (t : Selection) (n : ℕ) → RowFor (versionsIn d) t n → RowFor (submittedIn d p (version .0) day) t n
+  kept-row None n h = tt
+  kept-row (Selected r) n h =
+      let v = versionBy d p (version .0) day in
+      (omega (arith, h .0, length-append (versionsIn d) (v ∷ [])), h .1 ∙ ap (λ (w : VersionRecord). w .row .0) (sym (List·getD-append (versionsIn d) (v ∷ []) emptyVersion (r .at) (h .0))))
+
+  new-row : RowAt (submittedIn d p (version .0) day) (d .count) (d .count)
+  new-row =
+      let v = versionBy d p (version .0) day in
+      let m = length-held d few table in
+      (omega (arith, m, length-append (versionsIn d) (v ∷ [])), ap (λ (w : VersionRecord). w .row .0) (sym (getD-at (versionsIn d) v [] emptyVersion (d .count) m)))
+
+  -- so they are the rows of the versions with the new one
+  pub rows-submitted : {rows x : ℕ} → Surveyed rows p x (versionsIn d) s → RowsFound (versionsIn d) s → Turned (versionsIn d) (submittedIn d p (version .0) day) p t
+      → RowsFor (submittedIn d p (version .0) day) t (rowsAfter t (d .count) (s .row1) (s .row2))
+  rows-submitted f R T =
+      let ws = submittedIn d p (version .0) day in
+      let status = submittedStatus (d .opening .first .0) day in
+      let k1 = kept-row (s .first) (s .row1) (R .first) in
+      let k2 = kept-row (s .second) (s .row2) (R .second) in
+      record {
+        old1 = rw (T .old1, ← f .first) k1;
+        new1 = rw (T .old1, ← f .first, T .new1, ← one-run 1 (s .first) (f .first)) (raised-row ws (d .count) (s .row1) (d .count) new-row (s .first) version k1 (counts 1 status));
+        old2 = rw (T .old2, ← f .second) k2;
+        new2 = rw (T .old2, ← f .second, T .new2, ← one-run 2 (s .second) (f .second)) (raised-row ws (d .count) (s .row2) (d .count) new-row (s .second) version k2 (counts 2 status));
       }
 
 -- a series that fills its part
@@ -79,9 +113,9 @@ submitted-ok d p x day s hp hx hr =
     rw (all-append (versionRecordOk n) (versionsIn d) (versionBy d p x day ∷ []), s .versions, hp, hx, lt-ltb (d .count) n hr)
 
 module _ (d : Desk) (p x day : ℕ) (series values book log : List ℕ) (j : Judged) (J : JudgedSubmit d p x day (sizes values book log) (map signed series) j) (fine : j .verdict ≡ Fine) where
-  pub submit-allowed : Granted d p x day series values book log (j .turn) (j .due)
+  pub submit-allowed : {here : PointState} → here ≡ pointAt (d .points) p → Granted d here p x day series values book log (j .turn) (j .due)
   unfolding refusalBy
-  submit-allowed =
+  submit-allowed known =
       let h = passed _ (sym (J .verdict) ∙ fine) in
       let valid : validDesk d ≡ true = not-false (validDesk d) (h .0) in
       let s = sound d valid in
@@ -100,6 +134,7 @@ module _ (d : Desk) (p x day : ℕ) (series values book log : List ℕ) (j : Jud
       let full = r .1 .1 .1 .1 .1 .1 .1 .1 .1 .0 in
       record {
         sound = s;
+        here = known;
         table = J .table;
         point = and-left (pointOk p) _ fields;
         version = and-left (versionOk x) _ f1;

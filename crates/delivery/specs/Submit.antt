@@ -9,10 +9,12 @@ use Rattle.quantity.specs.Limits.{bookRows, pointOk, versionOk, versions}
 use Rattle.quantity.specs.declared.Version.{Version}
 use Rattle.state.specs.Change.{submitted}
 use Rattle.state.specs.Desk.{versionsIn}
+use Rattle.state.specs.Point.{pointAt}
 use Rattle.state.specs.Selection.{raise}
 use Rattle.state.specs.Status.{counts, submittedStatus}
 use Rattle.state.specs.Valid.{validDesk, Sound}
 use Rattle.state.specs.declared.Desk.{Desk}
+use Rattle.state.specs.declared.PointState.{PointState}
 use Rattle.state.specs.declared.VersionRecord.{VersionRecord}
 use Rattle.lookup.specs.declared.Survey.{Survey}
 use Rattle.model.specs.Call.{submits}
@@ -37,8 +39,9 @@ abbrev pub submittedIn : Desk → (point version day : ℕ) → List VersionReco
 submittedIn d p x day = submitted (versionBy d p x day) (versionsIn d)
 
 -- what a submission that is not refused has passed
-pub record Granted (d : Desk) (p x day : ℕ) (series values book log : List ℕ) (t : Turn) (due : Due) : Type 0 where
+pub record Granted (d : Desk) (s : PointState) (p x day : ℕ) (series values book log : List ℕ) (t : Turn) (due : Due) : Type 0 where
   pub sound : Sound d
+  pub here : s ≡ pointAt (d .points) p
   pub table : length (d .versions) ≡ versions
   pub point : pointOk p ≡ true
   pub version : versionOk x ≡ true

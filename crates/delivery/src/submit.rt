@@ -4,19 +4,19 @@ use crate::checks::no_row;
 use crate::checks::submit_ok;
 use crate::checks::too_early;
 use amend::Turn;
+use amend::ValueRows;
 use amend::copies::copy_row;
 use amend::log::due_by;
-use change::changes::on_day;
-use change::changes::with_used;
-use change::changes::with_version;
+use amend::runs::rows_after;
+use change::Effect;
+use change::changes::new_version;
+use change::changes::put_version;
 use follow::Sizes;
 use follow::checks::log_full;
 use follow::checks::other_lengths;
 use follow::follow::follow;
 use lookup::Survey;
 use lookup::points::is_active;
-use lookup::points::state_at;
-use model::Answer;
 use model::Cause;
 use model::Due;
 use model::Verdict;
@@ -24,11 +24,17 @@ use quantity::Day;
 use quantity::PointNo;
 use quantity::Version;
 use state::Desk;
+use state::PointState;
 use state::selections::raised_if;
 use state::selections::version_of;
 use state::statuses::counts_in;
 use state::statuses::submitted_status;
+use verdict::Decided;
+use verdict::Look;
 use verdict::Outcome;
+use verdict::checks::accept;
+use verdict::checks::outcome;
+use verdict::checks::refuse;
 use verdict::desks::absent;
 use verdict::desks::is_open;
 use verdict::desks::look;
@@ -39,15 +45,17 @@ ghost use Prim.Native.Nat.{_+_, _*_, _≤_};
 ghost use lib.ListN.{length};
 ghost use Rattle.quantity.specs.Word.{signed};
 ghost use Rattle.book.specs.Row.{splice};
-ghost use Rattle.state.specs.Desk.{rowsIn, versionsIn};
+ghost use Rattle.state.specs.Desk.{versionsIn};
 ghost use Rattle.state.specs.Valid.{Sound};
-ghost use Rattle.lookup.specs.Survey.{Surveyed};
+ghost use Rattle.change.specs.Effect.{changedBy, Fits};
 ghost use Rattle.model.specs.Call.{submits};
 ghost use Rattle.model.specs.Causes.{rules, firstOf};
 ghost use Rattle.model.specs.Log.{due as dueOf};
 ghost use Rattle.model.specs.Step.{step, granting};
 ghost use Rattle.model.specs.View.{viewOf};
 ghost use Rattle.model.specs.declared.Answer.the-variants.{Accepted};
+ghost use Rattle.amend.specs.Rows.{RowsFor};
+ghost use Rattle.verdict.specs.Look.{Looked};
 ghost use Rattle.verdict.specs.Stepped.{storesOf, lent, Stepped};
 ghost use Rattle.follow.specs.Fit.{lengthsIn};
 ghost use Rattle.delivery.specs.Submit.{SubmitTurn, submittedIn, Granted, JudgedSubmit};
@@ -72,7 +80,7 @@ pub fn submit_turn(first: Day, day: Day, count: u64, version: Version, s: Survey
 // The table's lines for a submission, in their order.
 fn submit_checks(
     d: Desk,
-    s: Survey,
+    l: Look,
     due: Due,
     point: PointNo,
     version: Version,
@@ -81,16 +89,16 @@ fn submit_checks(
     n: Sizes,
 ) -> Verdict
     requires { ⌜ Sound d ⌝ }
-    requires { ⌜ Surveyed (rowsIn (d .opening)) (point .0) (version .0) (versionsIn d) s ⌝ }
+    requires { ⌜ Looked d (point .0) (version .0) 0 0 0 l ⌝ }
     requires { ⌜ length (versionsIn d) ≡ d .count ⌝ }
     requires { ⌜ due ≡ dueOf (versionsIn d) (submittedIn d (point .0) (version .0) (day .0)) (point .0) (day .0) ⌝ }
     ensures { λ r. ⌜ r ≡ firstOf (rules (viewOf d) (lengthsIn n) (submits (point .0) (version .0) (day .0) (map signed (now (series .entry))))) ⌝ }
 {
     let o = d.opening;
-    let points = d.points;
-    let held = s.held;
-    let highest = s.highest;
-    let here = state_at(points, point);
+    let here = l.here;
+    let found = l.survey;
+    let held = found.held;
+    let highest = found.highest;
     let k0 = or_if(Verdict::Fine, !is_open(o), Cause::NotOpen);
     let k1 = or_if(k0, other_lengths(o, n), Cause::WrongLength);
     let k2 = or_if(
@@ -109,18 +117,19 @@ fn submit_checks(
     or_if(k9, log_full(d.used, o.log, due), Cause::NoLogRow)
 }
 
-// One look at the desk, the selections that the submission would make, and the table.
+// By one look at the desk: the selections that the submission would make, and the table.
 pub fn judge_submit(
     d: Desk,
+    l: Look,
     point: PointNo,
     version: Version,
     day: Day,
     series: &[u64],
     n: Sizes,
 ) -> Judged
+    requires { ⌜ Looked d (point .0) (version .0) 0 0 0 l ⌝ }
     ensures { λ r. ⌜ JudgedSubmit d (point .0) (version .0) (day .0) n (map signed (now (series .entry))) r ⌝ }
 {
-    let l = look(d, point, version, 0, 0, 0);
     let found = l.survey;
     let o = d.opening;
     let turn = submit_turn(o.first, day, d.count, version, found);
@@ -132,7 +141,7 @@ pub fn judge_submit(
             due,
         };
     }
-    let verdict = submit_checks(d, found, due, point, version, day, series, n);
+    let verdict = submit_checks(d, l, due, point, version, day, series, n);
     Judged { verdict, turn, due }
 }
 
@@ -145,10 +154,12 @@ fn store(values: &mut [u64], start: usize, q: usize, series: &[u64])
     copy_row(series, 0, q, &mut values[start..end]);
 }
 
-// The values, the version, the book and the log after a submission that is not refused.
+// The values, the book and the log after a submission that is not refused. The effect has its version, the log rows used and its day.
 fn submit_granted(
     d: Desk,
+    here: PointState,
     turn: Turn,
+    rows: ValueRows,
     due: Due,
     point: PointNo,
     version: Version,
@@ -157,33 +168,69 @@ fn submit_granted(
     values: &mut [u64],
     book: &mut [u64],
     log: &mut [u64],
-) -> Desk
-    requires { ⌜ Granted d (point .0) (version .0) (day .0) (now series) (now values) (now book) (now log) turn due ⌝ }
-    ensures { λ r. ⌜ Stepped (granting d (storesOf (now (values .entry)) (now (book .entry)) (now (log .entry))) (submits (point .0) (version .0) (day .0) (map signed (now (series .entry))))) Accepted r (now (values .exit)) (now (book .exit)) (now (log .exit)) ⌝ }
+) -> Effect
+    requires { ⌜ Granted d here (point .0) (version .0) (day .0) (now series) (now values) (now book) (now log) turn due ⌝ }
+    requires { ⌜ RowsFor (submittedIn d (point .0) (version .0) (day .0)) turn rows ⌝ }
+    ensures { λ r. ⌜ Fits d r × Stepped (granting d (storesOf (now (values .entry)) (now (book .entry)) (now (log .entry))) (submits (point .0) (version .0) (day .0) (map signed (now (series .entry))))) Accepted (changedBy d r) (now (values .exit)) (now (book .exit)) (now (log .exit)) ⌝ }
 {
-    let o = d.opening;
+    let opening = d.opening;
     let groups = d.groups;
-    let points = d.points;
-    let q = o.quarters as usize;
-    let start = d.count as usize * q;
+    let q = opening.quarters as usize;
+    let at = d.count;
+    let start = at as usize * q;
     store(values, start, q, series);
-    let here = state_at(points, point);
-    let n = with_version(d, point, version, day);
-    let versions = n.versions;
-    let used = follow(
-        groups,
-        here,
-        turn,
-        due,
-        versions,
-        n.count,
-        q,
-        d.used,
-        values,
-        book,
-        log,
-    );
-    on_day(with_used(n, used), day)
+    let record = new_version(opening.first, at, point, version, day);
+    let used = follow(groups, here, turn, due, rows, q, d.used, values, book, log);
+    put_version(d, at, record, at + 1, used, day)
+}
+
+// The answer and what it makes of the desk, by one look at it; the stores are as after the call.
+pub fn decide_submit(
+    d: Desk,
+    l: Look,
+    point: PointNo,
+    version: Version,
+    day: Day,
+    series: &[u64],
+    values: &mut [u64],
+    book: &mut [u64],
+    log: &mut [u64],
+) -> Decided
+    requires { ⌜ Looked d (point .0) (version .0) 0 0 0 l ⌝ }
+    ensures { λ r. ⌜ Fits d (r .effect) × Stepped (step d (lent (submits (point .0) (version .0) (day .0) (map signed (now (series .entry)))) (storesOf (now (values .entry)) (now (book .entry)) (now (log .entry))))) (r .answer) (changedBy d (r .effect)) (now (values .exit)) (now (book .exit)) (now (log .exit)) ⌝ }
+{
+    let n = Sizes {
+        values: values.len() as u64,
+        book: book.len() as u64,
+        log: log.len() as u64,
+    };
+    let j = judge_submit(d, l, point, version, day, series, n);
+    let verdict = j.verdict;
+    let turn = j.turn;
+    let due = j.due;
+    match verdict {
+        Verdict::Refuse(c) => refuse(d, c),
+        Verdict::Fine => {
+            let here = l.here;
+            let found = l.survey;
+            let rows = rows_after(turn, d.count, found.row1, found.row2);
+            let e = submit_granted(
+                d,
+                here,
+                turn,
+                rows,
+                due,
+                point,
+                version,
+                day,
+                series,
+                values,
+                book,
+                log,
+            );
+            accept(e)
+        }
+    }
 }
 
 pub fn submit(
@@ -198,26 +245,7 @@ pub fn submit(
 ) -> Outcome
     ensures { λ r. ⌜ Stepped (step d (lent (submits (point .0) (version .0) (day .0) (map signed (now (series .entry)))) (storesOf (now (values .entry)) (now (book .entry)) (now (log .entry))))) (r .answer) (r .desk) (now (values .exit)) (now (book .exit)) (now (log .exit)) ⌝ }
 {
-    let n = Sizes {
-        values: values.len() as u64,
-        book: book.len() as u64,
-        log: log.len() as u64,
-    };
-    let j = judge_submit(d, point, version, day, series, n);
-    let verdict = j.verdict;
-    let turn = j.turn;
-    let due = j.due;
-    match verdict {
-        Verdict::Refuse(c) => Outcome {
-            answer: Answer::Refused(c),
-            desk: d,
-        },
-        Verdict::Fine => {
-            let r = submit_granted(d, turn, due, point, version, day, series, values, book, log);
-            Outcome {
-                answer: Answer::Accepted,
-                desk: r,
-            }
-        }
-    }
+    let l = look(d, point, version, 0, 0, 0);
+    let r = decide_submit(d, l, point, version, day, series, values, book, log);
+    outcome(d, r)
 }

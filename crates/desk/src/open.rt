@@ -1,19 +1,22 @@
 // Open: the state is made anew, whatever the old one held, and the book is all 0.
+use change::changes::open_desk;
 use lookup::limits::groups_ok;
 use lookup::limits::opening_ok;
-use model::Answer;
 use model::Cause;
 use model::Verdict;
 use quantity::Day;
 use state::Desk;
 use state::Opening;
-use state::fresh::opened;
+use verdict::Decided;
 use verdict::Outcome;
+use verdict::checks::accept;
+use verdict::checks::outcome;
 use verdict::checks::refuse;
 use verdict::desks::is_open;
 use verdict::rules::or_if;
 ghost use mathlib.Core.Path.{_≡_};
 ghost use lib.ListN.{length, replicate};
+ghost use Rattle.change.specs.Effect.{changedBy, Fits};
 ghost use Rattle.model.specs.Call.{opens, telling};
 ghost use Rattle.model.specs.Step.{refusalBy, step};
 ghost use Rattle.verdict.specs.Stepped.{Stepped, storesOf, lent};
@@ -37,7 +40,8 @@ pub fn clear(book: &mut [u64])
     }
 }
 
-pub fn open(
+// What is decided; the book is cleared where it is accepted.
+pub fn decide_open(
     d: Desk,
     quarters: u64,
     first: Day,
@@ -47,8 +51,8 @@ pub fn open(
     values: &[u64],
     book: &mut [u64],
     log: &[u64],
-) -> Outcome
-    ensures { λ r. ⌜ Stepped (step d (lent (opens quarters (first .0) (clearing .0) (correction .0) groups) (storesOf (now (values .entry)) (now (book .entry)) (now (log .entry))))) (r .answer) (r .desk) (now (values .entry)) (now (book .exit)) (now (log .entry)) ⌝ }
+) -> Decided
+    ensures { λ r. ⌜ Fits d (r .effect) × Stepped (step d (lent (opens quarters (first .0) (clearing .0) (correction .0) groups) (storesOf (now (values .entry)) (now (book .entry)) (now (log .entry))))) (r .answer) (changedBy d (r .effect)) (now (values .entry)) (now (book .exit)) (now (log .entry)) ⌝ }
 {
     let o = Opening {
         quarters,
@@ -64,11 +68,34 @@ pub fn open(
         Verdict::Refuse(c) => refuse(d, c),
         Verdict::Fine => {
             clear(book);
-            let n = opened(o, groups);
-            Outcome {
-                answer: Answer::Accepted,
-                desk: n,
-            }
+            accept(open_desk(d, o, groups))
         }
     }
+}
+
+pub fn open(
+    d: Desk,
+    quarters: u64,
+    first: Day,
+    clearing: Day,
+    correction: Day,
+    groups: [u64; 17],
+    values: &[u64],
+    book: &mut [u64],
+    log: &[u64],
+) -> Outcome
+    ensures { λ r. ⌜ Stepped (step d (lent (opens quarters (first .0) (clearing .0) (correction .0) groups) (storesOf (now (values .entry)) (now (book .entry)) (now (log .entry))))) (r .answer) (r .desk) (now (values .entry)) (now (book .exit)) (now (log .entry)) ⌝ }
+{
+    let r = decide_open(
+        d,
+        quarters,
+        first,
+        clearing,
+        correction,
+        groups,
+        values,
+        book,
+        log,
+    );
+    outcome(d, r)
 }

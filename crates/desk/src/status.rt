@@ -1,6 +1,5 @@
 // Status: that of a version of an active point. The desk stays as it is.
 use lookup::points::is_active;
-use lookup::points::state_at;
 use model::Answer;
 use model::Cause;
 use model::Verdict;
@@ -13,7 +12,6 @@ use state::Held;
 use verdict::Look;
 use verdict::Outcome;
 use verdict::checks::at_work;
-use verdict::checks::refuse;
 use verdict::desks::absent;
 use verdict::desks::look;
 use verdict::rules::or_if;
@@ -28,7 +26,7 @@ fn status_verdict(d: Desk, l: Look, point: PointNo, version: Version) -> Verdict
     ensures { λ r. ⌜ ((n : Lengths) → r ≡ refusalBy d (telling n (asks (point .0) (version .0)))) ⌝ }
 {
     let opening = d.opening;
-    let points = d.points;
+    let here = l.here;
     let survey = l.survey;
     let held = survey.held;
     let v0 = at_work(l.valid, opening);
@@ -37,7 +35,7 @@ fn status_verdict(d: Desk, l: Look, point: PointNo, version: Version) -> Verdict
         !(point_ok(point) & version_ok(version)),
         Cause::BadField,
     );
-    let v2 = or_if(v1, !is_active(state_at(points, point)), Cause::NotActive);
+    let v2 = or_if(v1, !is_active(here), Cause::NotActive);
     or_if(v2, absent(held), Cause::NoVersion)
 }
 
@@ -58,7 +56,10 @@ pub fn status(d: Desk, point: PointNo, version: Version) -> Outcome
     let held = survey.held;
     let v = status_verdict(d, l, point, version);
     match v {
-        Verdict::Refuse(c) => refuse(d, c),
+        Verdict::Refuse(c) => Outcome {
+            answer: Answer::Refused(c),
+            desk: d,
+        },
         Verdict::Fine => {
             let answer = status_answer(held);
             Outcome { answer, desk: d }

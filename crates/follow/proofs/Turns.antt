@@ -15,7 +15,6 @@ use Rattle.quantity.proofs.Lists.{all-at}
 use Rattle.quantity.proofs.Tests.{and-left, and-right}
 use Rattle.state.specs.Desk.{versionsIn}
 use Rattle.state.specs.Point.{pointAt, freePoint}
-use Rattle.state.specs.Selection.{orElse}
 use Rattle.state.specs.Valid.{pointRecordOk, stateOk, versionRecordOk}
 use Rattle.state.specs.Version.{recordAt}
 use Rattle.state.specs.declared.Desk.{Desk}
@@ -26,7 +25,10 @@ use Rattle.state.specs.declared.VersionRecord.{VersionRecord}
 use Rattle.model.specs.Log.{due, dueBy}
 use Rattle.model.specs.Step.{placeOf}
 use Rattle.amend.specs.Lent.{PlaceIn, TurnIn}
+use Rattle.amend.specs.Rows.{RowsFor}
 use Rattle.amend.specs.declared.Turn.{Turn}
+use Rattle.amend.specs.declared.ValueRows.{ValueRows}
+use Rattle.amend.proofs.Selected.{turn-rows}
 use Rattle.follow.specs.Fit.{Turned}
 
 -- every point of a valid table is within its limits
@@ -53,19 +55,13 @@ row-below n (v ∷ vs) low ok zero =
 row-below n (v ∷ vs) low ok (suc i) = row-below n vs low (and-right (versionRecordOk n v) (all (versionRecordOk n) vs) ok) i
 
 -- a selected version's series is within the values
-pub place-in : (q n : ℕ) (values : List ℕ) (vs : List VersionRecord) → 1 ≤ n → n * q ≤ length values → all (versionRecordOk n) vs ≡ true → (s : Selection) → PlaceIn q values (placeOf q vs s)
+place-in : (q n : ℕ) (values : List ℕ) (vs : List VersionRecord) → 1 ≤ n → n * q ≤ length values → all (versionRecordOk n) vs ≡ true → (s : Selection) → PlaceIn q values (placeOf q vs s)
 unfolding placeOf
 place-in q n values vs low fits ok None = tt
 place-in q n values vs low fits ok (Selected r) =
     let h : recordAt vs (r .at) .row .0 < n = row-below n vs low ok (r .at) in
     omega (arith, mul-le-mul-right q h, suc-mul (recordAt vs (r .at) .row .0) q)
 
--- the selections of a turn are within the values
-pub turn-in : (q n : ℕ) (values : List ℕ) (vs : List VersionRecord) (t : Turn) → 1 ≤ n → n * q ≤ length values → all (versionRecordOk n) vs ≡ true → TurnIn q values vs t
-turn-in q n values vs t low fits ok =
-    record {
-      old1 = place-in q n values vs low fits ok (t .old1);
-      new1 = place-in q n values vs low fits ok (t .new1);
-      old2 = place-in q n values vs low fits ok (orElse (t .old2) (t .old1));
-      new2 = place-in q n values vs low fits ok (orElse (t .new2) (t .new1));
-    }
+-- where the rows are those of valid versions, the series of a turn are within the values
+pub turn-in : (q n : ℕ) (values : List ℕ) (vs : List VersionRecord) (r : ValueRows) (t : Turn) → 1 ≤ n → n * q ≤ length values → all (versionRecordOk n) vs ≡ true → RowsFor vs t r → TurnIn q values r t
+turn-in q n values vs r t low fits ok R = turn-rows q vs t r R values (place-in q n values vs low fits ok)

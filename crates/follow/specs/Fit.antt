@@ -13,10 +13,11 @@ use Rattle.state.specs.declared.VersionRecord.{VersionRecord}
 use Rattle.model.specs.Call.{Lengths}
 use Rattle.model.specs.Log.{logged, usedAfter}
 use Rattle.model.specs.Series.{sidesOf}
-use Rattle.model.specs.Step.{amendBy}
 use Rattle.model.specs.declared.Due.{Due}
 use Rattle.amend.specs.Lent.{TurnIn}
+use Rattle.amend.specs.Rows.{amendRows}
 use Rattle.amend.specs.declared.Turn.{Turn}
+use Rattle.amend.specs.declared.ValueRows.{ValueRows}
 use Rattle.follow.specs.declared.Sizes.{Sizes}
 
 -- the lengths of the stores lent
@@ -30,16 +31,16 @@ pub record Turned (vs ws : List VersionRecord) (p : ℕ) (t : Turn) : Type 0 whe
   pub old2 : t .old2 ≡ own 2 p vs
   pub new2 : t .new2 ≡ own 2 p ws
 
--- a point and its versions after a change, and the stores that are to follow
-pub record Changed (q : ℕ) (groups : List ℕ) (here : PointState) (vs : List VersionRecord) (values book : List ℕ) (t : Turn) : Type 0 where
+-- a point, the rows of values of what is selected before and after a change, and the stores that are to follow
+pub record Changed (q : ℕ) (groups : List ℕ) (here : PointState) (rows : ValueRows) (values book : List ℕ) (t : Turn) : Type 0 where
   pub few : q ≤ mostQuarters
   pub allotted : all groupOk groups ≡ true
   pub fit : stateOk here ≡ true
   pub whole : length book ≡ bookRows * q
-  pub turn : TurnIn q values vs t
+  pub turn : TurnIn q values rows t
 
 -- the book, the log and its rows in use after the change
-pub record Followed (q : ℕ) (groups : List ℕ) (here : PointState) (vs : List VersionRecord) (t : Turn) (due : Due) (used : ℕ) (values book log : List ℕ) (r : ℕ) (book′ log′ : List ℕ) : Type 0 where
-  pub booked : book′ ≡ amendBy q (sidesOf groups here) vs (t .old1) (t .new1) (t .old2) (t .new2) values book
+pub record Followed (q : ℕ) (groups : List ℕ) (here : PointState) (rows : ValueRows) (t : Turn) (due : Due) (used : ℕ) (values book log : List ℕ) (r : ℕ) (book′ log′ : List ℕ) : Type 0 where
+  pub booked : book′ ≡ amendRows q (sidesOf groups here) rows t values book
   pub noted : log′ ≡ logged used due log
   pub counted : r ≡ usedAfter due used

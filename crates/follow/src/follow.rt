@@ -1,36 +1,33 @@
 // A change of a point's versions: the rows of the book that it touches, and the log row that is due.
 use amend::Turn;
+use amend::ValueRows;
 use amend::log::put_row;
 use amend::log::used_after;
 use amend::runs::amend;
 use amend::sides::sides_of;
 use model::Due;
 use state::PointState;
-use state::VersionRecord;
-ghost use Prim.Native.Nat.{_≤_};
-ghost use lib.ListN.{take};
 ghost use Rattle.amend.specs.Lent.{RoomIn};
 ghost use Rattle.follow.specs.Fit.{Changed, Followed};
 
-// By the point's state and the versions after the change. Gives the log rows in use then.
+// By the point's state, and the rows of values of what is selected before and after. Gives the log rows in use then.
 pub fn follow(
     groups: [u64; 17],
     here: PointState,
     t: Turn,
     due: Due,
-    versions: [VersionRecord; 512],
-    count: u64,
+    rows: ValueRows,
     q: usize,
     used: u64,
     values: &[u64],
     book: &mut [u64],
     log: &mut [u64],
 ) -> u64
-    requires { ⌜ Changed q groups here (take count versions) (now values) (now book) t ⌝ }
-    requires { ⌜ (count ≤ 512) × RoomIn used (now log) due ⌝ }
-    ensures { λ r. ⌜ Followed q groups here (take count versions) t due used (now (values .entry)) (now (book .entry)) (now (log .entry)) r (now (book .exit)) (now (log .exit)) ⌝ }
+    requires { ⌜ Changed q groups here rows (now values) (now book) t ⌝ }
+    requires { ⌜ RoomIn used (now log) due ⌝ }
+    ensures { λ r. ⌜ Followed q groups here rows t due used (now (values .entry)) (now (book .entry)) (now (log .entry)) r (now (book .exit)) (now (log .exit)) ⌝ }
 {
-    amend(sides_of(groups, here), t, versions, count, q, values, book);
+    amend(sides_of(groups, here), t, rows, q, values, book);
     put_row(log, used as usize, due);
     used_after(due, used)
 }

@@ -22,7 +22,8 @@ use Rattle.model.specs.declared.Due.{Due}
 use Rattle.model.specs.declared.Due.the-variants.{Nothing, Row}
 use Rattle.model.specs.declared.LogRow.{LogRow}
 
-differ-same : (s : Selection) → differ s s ≡ false
+-- what is selected stays the same row
+pub differ-same : (s : Selection) → differ s s ≡ false
 unfolding differ
 differ-same None = refl
 differ-same (Selected r) = rw (eq-eqb (r .at) (r .at) refl, eq-eqb (r .version .0) (r .version .0) refl)

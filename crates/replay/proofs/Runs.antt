@@ -22,7 +22,8 @@ use Rattle.message.proofs.Calls.{parse-read}
 use Rattle.message.proofs.Files.{calls-none, calls-next, calls-stop}
 use Rattle.message.proofs.Placed.{offset-is}
 use Rattle.state.specs.declared.Desk.{Desk}
-use Rattle.model.specs.Call.{answerNumber}
+use Rattle.model.specs.Agreement.{Running}
+use Rattle.model.specs.Call.{Call, Stores, answerNumber}
 use Rattle.model.specs.declared.Answer.{Answer}
 use Rattle.verdict.specs.Stepped.{storesOf}
 use Rattle.reader.specs.Reader.{filled, readAt, seriesAfter}
@@ -37,6 +38,10 @@ use Rattle.replay.specs.Run.{runningOf, Handed, playingOf, endedBy, Ran}
 use Rattle.replay.specs.declared.Ending.{Ending as EndingOf}
 use Rattle.replay.specs.declared.Ending.the-variants.{End, Full}
 use Rattle.replay.proofs.Sendings.{same-call}
+
+-- the desk after a call, said otherwise
+pub handed-as : {r : Running} {c : Call} {answer : Answer} {d n : Desk} {s : Stores} → n ≡ d → Handed r c answer (runningOf d s) → Handed r c answer (runningOf n s)
+handed-as e h = record { answered = h .answered; running = rw e (h .running) }
 
 -- stores and buffers of the same lengths
 pub record Sized (p q : Playing) : Type 0 where

@@ -4,13 +4,14 @@ use message::FileCall;
 use message::call::call_of;
 use message::call::groups_of;
 use state::Desk;
-use verdict::Outcome;
+use verdict::Decided;
 ghost use mathlib.Core.Path.{_≡_};
 ghost use mathlib.Core.List.{List, map};
 ghost use Prim.Native.Nat.{ℕ};
 ghost use lib.IntN.{ℤ};
 ghost use lib.ListN.{length};
 ghost use Rattle.quantity.specs.Word.{signed};
+ghost use Rattle.change.specs.Effect.{changedBy, Fits};
 ghost use Rattle.message.specs.Named.{callOf, groupsOf};
 ghost use Rattle.verdict.specs.Stepped.{storesOf};
 ghost use Rattle.replay.specs.Feeding.{quartersFor, lentOf};
@@ -77,8 +78,8 @@ pub fn hand_part(
     values: &mut [u64],
     book: &mut [u64],
     log: &mut [u64],
-) -> Outcome
-    ensures { λ r. ⌜ Handed (runningOf d (storesOf (now (values .entry)) (now (book .entry)) (now (log .entry)))) (asked (callOf kind fields (length (now (series .entry)))) (groupsOf fields) (map signed (now (series .entry)))) (r .answer) (runningOf (r .desk) (storesOf (now (values .exit)) (now (book .exit)) (now (log .exit)))) ⌝ }
+) -> Decided
+    ensures { λ r. ⌜ Fits d (r .effect) × Handed (runningOf d (storesOf (now (values .entry)) (now (book .entry)) (now (log .entry)))) (asked (callOf kind fields (length (now (series .entry)))) (groupsOf fields) (map signed (now (series .entry)))) (r .answer) (runningOf (changedBy d (r .effect)) (storesOf (now (values .exit)) (now (book .exit)) (now (log .exit)))) ⌝ }
 {
     let opening = d.opening;
     let call = call_of(kind, fields, series.len());

@@ -2,6 +2,8 @@
 use crate::Ending;
 use crate::Replayed;
 use crate::part::hand_part;
+use change::Tables;
+use change::settling::settled_versions;
 use reader::Step;
 use reader::read_call;
 use state::fresh::fresh_desk;
@@ -68,7 +70,34 @@ pub fn run_file(
         let out = hand_part(desk, kind, fields, &series[0..count], values, book, log);
         let answer = out.answer;
         answers[answered] = number_of(answer);
-        desk = out.desk;
+        let effect = out.effect;
+        let tables = effect.tables;
+        let opening = effect.opening;
+        let day = effect.day;
+        let groups = effect.groups;
+        let settled = effect.settled;
+        match tables {
+            Tables::Same => {}
+            Tables::Fresh => {
+                desk = fresh_desk();
+            }
+            Tables::Point { at, record } => {
+                desk.points[at as usize] = record;
+            }
+            Tables::Version { at, record } => {
+                desk.versions[at as usize] = record;
+            }
+            Tables::Settled { run } => {
+                let versions = desk.versions;
+                desk.versions = settled_versions(versions, desk.count, run);
+            }
+        }
+        desk.opening = opening;
+        desk.day = day;
+        desk.groups = groups;
+        desk.count = effect.count;
+        desk.used = effect.used;
+        desk.settled = settled;
         answered += 1;
         at = next;
     }

@@ -1,8 +1,7 @@
 // Assign: a delta moves to another group, in both runs.
 use amend::delta::move_delta;
-use change::changes::on_day;
-use change::changes::with_group;
-use model::Answer;
+use change::Effect;
+use change::changes::put_group;
 use model::Cause;
 use model::Verdict;
 use quantity::Day;
@@ -10,8 +9,11 @@ use quantity::limits::day_ok;
 use quantity::limits::delta_ok;
 use quantity::limits::group_ok;
 use state::Desk;
+use verdict::Decided;
 use verdict::Outcome;
+use verdict::checks::accept;
 use verdict::checks::at_work;
+use verdict::checks::outcome;
 use verdict::checks::refuse;
 use verdict::desks::valid;
 use verdict::rules::or_if;
@@ -21,18 +23,20 @@ ghost use mathlib.Core.Bool.{true};
 ghost use mathlib.Core.List.{List};
 ghost use lib.ListN.{length};
 ghost use Rattle.quantity.specs.Limits.{deltaOk, groupOk};
-ghost use Rattle.state.specs.Valid.{Sound};
+ghost use Rattle.change.specs.Effect.{changedBy, Fits};
+ghost use Rattle.state.specs.Valid.{Sound, validDesk};
 ghost use Rattle.model.specs.Call.{assigns, telling};
 ghost use Rattle.model.specs.Step.{refusalBy, granting, step};
 ghost use Rattle.model.specs.declared.Answer.the-variants.{Accepted};
 ghost use Rattle.verdict.specs.Stepped.{BookStepped, storesOf, lent};
 ghost use Rattle.verdict.specs.Lent.{sizes};
 
-pub fn assign_verdict(d: Desk, size: u64, area: u64, group: u64, day: Day) -> Verdict
+pub fn assign_verdict(d: Desk, fit: bool, size: u64, area: u64, group: u64, day: Day) -> Verdict
+    requires { ⌜ fit ≡ validDesk d ⌝ }
     ensures { λ r. ⌜ ((values log : ℕ) → r ≡ refusalBy d (telling (sizes values size log) (assigns area group (day .0)))) ⌝ }
 {
     let opening = d.opening;
-    let v0 = at_work(valid(d), opening);
+    let v0 = at_work(fit, opening);
     let v1 = or_if(v0, size != opening.book, Cause::WrongLength);
     let fits = delta_ok(area) & (group_ok(group) & day_ok(day));
     let v2 = or_if(v1, !fits, Cause::BadField);
@@ -40,33 +44,43 @@ pub fn assign_verdict(d: Desk, size: u64, area: u64, group: u64, day: Day) -> Ve
     or_if(v3, opening.clearing.0 < day.0, Cause::AfterClearing)
 }
 
-fn assigned(d: Desk, area: u64, group: u64, day: Day, book: &mut [u64]) -> Desk
+// The book and the desk after an assignment that is not refused.
+fn assigned(d: Desk, area: u64, group: u64, day: Day, book: &mut [u64]) -> Effect
     requires { ⌜ Sound d ⌝ }
     requires { ⌜ (deltaOk area ≡ true) × (groupOk group ≡ true) ⌝ }
     requires { ⌜ length (now book) ≡ d .opening .book ⌝ }
-    ensures { λ r. ⌜ ((values log : List ℕ) → BookStepped (granting d (storesOf values (now (book .entry)) log) (assigns area group (day .0))) Accepted r (now (book .exit))) ⌝ }
+    ensures { λ r. ⌜ Fits d r × ((values log : List ℕ) → BookStepped (granting d (storesOf values (now (book .entry)) log) (assigns area group (day .0))) Accepted (changedBy d r) (now (book .exit))) ⌝ }
 {
     let opening = d.opening;
     let groups = d.groups;
     let i = area as usize;
     let old = groups[i];
     move_delta(area, old, group, opening.quarters as usize, book);
-    let n = with_group(d, area, group);
-    on_day(n, day)
+    put_group(d, area, group, day)
+}
+
+// What is decided, where it is known whether the desk is within its limits.
+pub fn decide_assign(
+    d: Desk,
+    fit: bool,
+    area: u64,
+    group: u64,
+    day: Day,
+    book: &mut [u64],
+) -> Decided
+    requires { ⌜ fit ≡ validDesk d ⌝ }
+    ensures { λ r. ⌜ Fits d (r .effect) × ((values log : List ℕ) → BookStepped (step d (lent (assigns area group (day .0)) (storesOf values (now (book .entry)) log))) (r .answer) (changedBy d (r .effect)) (now (book .exit))) ⌝ }
+{
+    let v = assign_verdict(d, fit, book.len() as u64, area, group, day);
+    match v {
+        Verdict::Refuse(c) => refuse(d, c),
+        Verdict::Fine => accept(assigned(d, area, group, day, book)),
+    }
 }
 
 pub fn assign(d: Desk, area: u64, group: u64, day: Day, book: &mut [u64]) -> Outcome
     ensures { λ r. ⌜ ((values log : List ℕ) → BookStepped (step d (lent (assigns area group (day .0)) (storesOf values (now (book .entry)) log))) (r .answer) (r .desk) (now (book .exit))) ⌝ }
 {
-    let v = assign_verdict(d, book.len() as u64, area, group, day);
-    match v {
-        Verdict::Refuse(c) => refuse(d, c),
-        Verdict::Fine => {
-            let n = assigned(d, area, group, day, book);
-            Outcome {
-                answer: Answer::Accepted,
-                desk: n,
-            }
-        }
-    }
+    let r = decide_assign(d, valid(d), area, group, day, book);
+    outcome(d, r)
 }

@@ -1,8 +1,5 @@
 // Settle: the versions that a run selects get the status of settled ones, and the run its flag.
-use change::changes::on_day;
-use change::changes::with_settled;
-use change::settling::with_run_settled;
-use model::Answer;
+use change::changes::settle_run;
 use model::Cause;
 use model::Verdict;
 use quantity::Day;
@@ -11,15 +8,17 @@ use quantity::limits::run_ok;
 use state::Desk;
 use state::Opening;
 use state::Runs;
+use verdict::Decided;
 use verdict::Outcome;
+use verdict::checks::accept;
 use verdict::checks::at_work;
+use verdict::checks::outcome;
 use verdict::checks::refuse;
 use verdict::desks::valid;
 use verdict::rules::or_if;
 ghost use mathlib.Core.Path.{_≡_};
-ghost use mathlib.Core.Bool.{true};
-ghost use Rattle.state.specs.Change.{settledDesk};
-ghost use Rattle.state.specs.Desk.{onDay, withSettled, flagOf, flagged};
+ghost use Rattle.change.specs.Effect.{changedBy, Fits};
+ghost use Rattle.state.specs.Desk.{flagOf};
 ghost use Rattle.state.specs.Valid.{validDesk};
 ghost use Rattle.model.specs.Call.{Stores, Lengths, settles, telling};
 ghost use Rattle.model.specs.Causes.{deadline};
@@ -46,13 +45,14 @@ pub fn flag_of(settled: Runs, run: u64) -> bool
     }
 }
 
-pub fn settle_verdict(d: Desk, run: u64, day: Day) -> Verdict
+pub fn settle_verdict(d: Desk, fit: bool, run: u64, day: Day) -> Verdict
+    requires { ⌜ fit ≡ validDesk d ⌝ }
     ensures { λ r. ⌜ ((n : Lengths) → r ≡ refusalBy d (telling n (settles run (day .0)))) ⌝ }
 {
     let opening = d.opening;
     let settled = d.settled;
     let last = deadline_of(opening, run);
-    let v0 = at_work(valid(d), opening);
+    let v0 = at_work(fit, opening);
     let v1 = or_if(v0, !(run_ok(run) & day_ok(day)), Cause::BadField);
     let v2 = or_if(v1, day.0 < d.day.0, Cause::PastDay);
     let v3 = or_if(v2, day.0 <= last.0, Cause::SettleTooEarly);
@@ -60,26 +60,21 @@ pub fn settle_verdict(d: Desk, run: u64, day: Day) -> Verdict
     or_if(v4, (run == 2) & !settled.first, Cause::FirstRunOpen)
 }
 
-fn settled(d: Desk, run: u64, day: Day) -> Desk
-    requires { ⌜ validDesk d ≡ true ⌝ }
-    ensures { λ r. ⌜ r ≡ onDay (withSettled (settledDesk d run) (flagged run (d .settled))) (day .0) ⌝ }
+// What is decided, where it is known whether the desk is within its limits.
+pub fn decide_settle(d: Desk, fit: bool, run: u64, day: Day) -> Decided
+    requires { ⌜ fit ≡ validDesk d ⌝ }
+    ensures { λ r. ⌜ Fits d (r .effect) × ((s : Stores) → Answered (step d (lent (settles run (day .0)) s)) (r .answer) (changedBy d (r .effect))) ⌝ }
 {
-    let n = with_settled(with_run_settled(d, run), run);
-    on_day(n, day)
+    let v = settle_verdict(d, fit, run, day);
+    match v {
+        Verdict::Refuse(c) => refuse(d, c),
+        Verdict::Fine => accept(settle_run(d, run, day)),
+    }
 }
 
 pub fn settle(d: Desk, run: u64, day: Day) -> Outcome
     ensures { λ r. ⌜ ((s : Stores) → Answered (step d (lent (settles run (day .0)) s)) (r .answer) (r .desk)) ⌝ }
 {
-    let v = settle_verdict(d, run, day);
-    match v {
-        Verdict::Refuse(c) => refuse(d, c),
-        Verdict::Fine => {
-            let n = settled(d, run, day);
-            Outcome {
-                answer: Answer::Accepted,
-                desk: n,
-            }
-        }
-    }
+    let r = decide_settle(d, valid(d), run, day);
+    outcome(d, r)
 }

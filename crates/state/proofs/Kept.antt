@@ -10,17 +10,18 @@ use borrow.Author.Tests.{eqb-true, eq-eqb, ne-eqb}
 use lib.Dec.{eqb}
 use lib.ListN.{length, take, set}
 use lib.Seq.{length-take-le, getD-take, take-set-lt, take-suc-set}
-use Rattle.quantity.proofs.Tests.{by-test, and-left, and-right}
+use Rattle.quantity.proofs.Tests.{by-test, and-left, and-right, and-both}
 use Rattle.state.proofs.Lists.{take-mapFirst}
-use Rattle.state.proofs.Picks.{best-set, best-map, held-right, own-highest}
+use Rattle.state.proofs.Picks.{best-set, best-comes, best-map, held-right, own-highest}
 use Rattle.state.specs.Change.{submitted, confirm, noticed, settle, settledBy, submittedDesk, noticedDesk, settledDesk}
 use Rattle.state.specs.Desk.{versionsIn}
-use Rattle.state.specs.Selection.{versionOf, isCounted, own, IsHighest, Highest}
+use Rattle.state.specs.Selection.{raiseEarlier, versionOf, isCounted, own, IsHighest, Highest}
 use Rattle.state.specs.Status.{counts, isCheck, confirmedStatus, settledStatus}
 use Rattle.state.specs.Version.{emptyVersion, restatus, recordAt, isAt, held, HeldIn}
 use Rattle.state.specs.declared.Desk.{Desk}
 use Rattle.state.specs.declared.Held.{Held}
 use Rattle.state.specs.declared.Held.the-variants.{Absent, Has}
+use Rattle.state.specs.declared.Selection.{Selection}
 use Rattle.state.specs.declared.Selection.the-variants.{Selected}
 use Rattle.state.specs.declared.Status.{Status}
 use Rattle.state.specs.declared.Status.the-variants.{Check, Settlement, Settled, Correction, CorrectionSettled}
@@ -40,6 +41,24 @@ notice-negative c p x y d vs ne = go (held p x vs)
 -- "Positive turns status 1 into 2 if day ≤ C, else 4.": exactly the record found is restated
 pub notice-positive : (c p x d i : ℕ) (vs : List VersionRecord) → held p x vs ≡ Has i Check → noticed c p x 1 d vs ≡ set vs i (restatus (confirmedStatus c d) (recordAt vs i))
 notice-positive c p x d i vs e = rw e
+
+-- and the point's own selection in a run takes it where its new status counts: no record of its number stands before it
+pub notice-own : (run c p x d i : ℕ) (vs : List VersionRecord) → held p x vs ≡ Has i Check
+    → own run p (noticed c p x 1 d vs) ≡ cond (counts run (confirmedStatus c d)) (raiseEarlier (own run p vs) i (record { 0 = x })) (own run p vs)
+notice-own run c p x d i vs e =
+    let h : HeldIn p x vs (length vs) (Has i Check) = subst (HeldIn p x vs (length vs)) e (held-right p x vs) in
+    let f = isCounted run p in
+    let v = recordAt vs i in
+    let s = confirmedStatus c d in
+    let here = and-left (isAt p v) _ (h .found) in
+    let off : f v ≡ false = rw (h .status, and-false (isAt p v)) in
+    let number = eqb-true (v .version .0) x (and-right (isAt p v) _ (h .found)) in
+    rw (notice-positive c p x d i vs e)
+    (by-test (λ (r : Selection). own run p (set vs i (restatus s v)) ≡ r) (counts run s) (raiseEarlier (own run p vs) i (record { 0 = x })) (own run p vs)
+    (λ on. best-comes f vs i (restatus s v) (h .within) off (rw (here, on))
+    (λ j l t n. false≢true (sym (h .first j l) ∙ and-both (isAt p (recordAt vs j)) _ (and-left (isAt p (recordAt vs j)) _ t) (eq-eqb (recordAt vs j .version .0) x (n ∙ number))))
+    ∙ ap (λ (m : ℕ). raiseEarlier (own run p vs) i (record { 0 = m })) number)
+    (λ on. best-set f vs i (restatus s v) (rw (on, and-false (isAt p v)) (sym off)) refl))
 
 -- a notice at one point leaves the selection of every other
 pub notice-other : (run q c p x y d : ℕ) (vs : List VersionRecord) → (p ≡ q → ⊥) → own run q (noticed c p x y d vs) ≡ own run q vs

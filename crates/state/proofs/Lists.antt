@@ -74,6 +74,14 @@ module _ {A : Type 0} (f : A → A) where
   pub mapFirst-more : (l : List A) (i : ℕ) (d : A) → i < length l → set (mapFirst i f l) i (f (getD l i d)) ≡ mapFirst (i + 1) f l
   mapFirst-more l i d h = rw add-one (mapFirst-suc l i d h)
 
+  -- the next one is as it was
+  pub mapFirst-next : (l : List A) (i : ℕ) (d : A) → getD (mapFirst i f l) i d ≡ getD l i d
+  unfolding mapFirst
+  mapFirst-next [] zero d = refl
+  mapFirst-next [] (suc i) d = refl
+  mapFirst-next (x ∷ l) zero d = refl
+  mapFirst-next (x ∷ l) (suc i) d = mapFirst-next l i d
+
   -- the first ones of them
   pub take-mapFirst : (l : List A) (n : ℕ) → n ≤ length l → take n (mapFirst n f l) ≡ map f (take n l)
   unfolding mapFirst

@@ -1,19 +1,20 @@
 -- Laws of the pick of a version, for any table: the selected version counts and no higher one does, the version found is the one asked for,
 -- and which changes leave them. Assumes nothing.
-use Prim.Native.Nat.{ℕ, suc, _<_}
+use Prim.Native.Nat.{ℕ, suc, _≤_, _<_}
 use mathlib.Core.Path.{_≡_, refl, sym, _∙_, subst}
 use mathlib.Core.Bool.{Bool, true, false, _||_, and-false, or-false, or-assoc, false≢true}
 use mathlib.Core.List.{List, [], _∷_, map}
 use native.Mathlib.Decide.{ℕ-discrete}
 use native.Mathlib.Omega.{arith}
-use borrow.Author.Tests.{ltb-true, ltb-false, ne-eqb, lt-ltb}
-use lib.Dec.{ltb, eqb}
-use lib.ListN.{length, set}
+use borrow.Author.Tests.{leb-true, leb-false, ltb-true, ltb-false, ne-eqb, lt-ltb}
+use lib.Dec.{leb, ltb, eqb}
+use lib.ListN.{length, set, length-set}
+use lib.Seq.{getD-set-same, getD-set-other}
 use Rattle.quantity.proofs.Tests.{by-test}
 use Rattle.quantity.specs.Lists.{any}
 use Rattle.state.proofs.Lists.{walk-last, walk-map, walk-set, walk-keeps}
 use Rattle.state.specs.Change.{submitted}
-use Rattle.state.specs.Selection.{row, raise, raiseIf, best, isSelected, versionOf, isCounted, own, selected, IsHighest, Highest}
+use Rattle.state.specs.Selection.{row, raise, raiseEarlier, raiseIf, best, isSelected, versionOf, isCounted, own, selected, IsHighest, Highest}
 use Rattle.state.specs.Status.{statusNumber, counts}
 use Rattle.state.specs.Walk.{walk}
 use Rattle.state.specs.Version.{emptyVersion, recordAt, isVersion, orHeld, held, HeldIn}
@@ -113,6 +114,80 @@ module _ (f : VersionRecord → Bool) (vs : List VersionRecord) where
   pub best-set : (k : ℕ) (w : VersionRecord) → f w ≡ f (recordAt vs k) → w .version ≡ recordAt vs k .version → best f (set vs k w) ≡ best f vs
   unfolding best
   best-set k w p q = walk-set (raiseIf f) vs k w emptyVersion (λ s i. rw (p, q)) None 0
+
+-- of the first n records there is one highest, or none
+pub highest-one : (f : VersionRecord → Bool) (vs : List VersionRecord) (n : ℕ) (s t : Selection) → Highest f vs n s → Highest f vs n t → s ≡ t
+highest-one f vs n None None h k = refl
+highest-one f vs n None (Selected r) h k = never (f (recordAt vs (r .at))) (h (r .at) (k .within)) (k .passes)
+highest-one f vs n (Selected r) None h k = never (f (recordAt vs (r .at))) (k (r .at) (h .within)) (h .passes)
+highest-one f vs n (Selected r) (Selected q) h k =
+    let before = not-before r q h k in
+    let after = not-before q r k h in
+    let e : r .at ≡ q .at = omega arith in
+    let v : r .version ≡ q .version = sym (h .version) ∙ rw e (k .version) in
+    rw (e, v)
+  where
+    not-before : (r q : VersionRow) → IsHighest f vs n r → IsHighest f vs n q → r .at < q .at → ⊥
+    not-before r q h k l =
+        let a : recordAt vs (r .at) .version .0 ≡ r .version .0 = rw (h .version) in
+        let b : recordAt vs (q .at) .version .0 ≡ q .version .0 = rw (k .version) in
+        omega (arith, k .first (r .at) l (h .passes), h .most (q .at) (k .within) (k .passes))
+
+module _ (f : VersionRecord → Bool) (vs : List VersionRecord) (k : ℕ) (w : VersionRecord) (in-table : k < length vs) where
+  -- what holds of the record set and of every other
+  set-either : (Q : ℕ → VersionRecord → Type 0) → Q k w → ((j : ℕ) → (j ≡ k → ⊥) → Q j (recordAt vs j)) → (j : ℕ) → Q j (recordAt (set vs k w) j)
+  set-either Q a b j = go (ℕ-discrete j k)
+    where
+      go : Dec (j ≡ k) → Q j (recordAt (set vs k w) j)
+      go (yes e) = rw (e, getD-set-same vs k w emptyVersion in-table) a
+      go (no ne) = rw (getD-set-other vs k j w emptyVersion ne) (b j ne)
+
+  -- a record that comes to pass, where none before it with its number does
+  pub best-comes : f (recordAt vs k) ≡ false → f w ≡ true → ((j : ℕ) → j < k → f (recordAt vs j) ≡ true → recordAt vs j .version .0 ≡ w .version .0 → ⊥)
+      → best f (set vs k w) ≡ raiseEarlier (best f vs) k (w .version)
+  best-comes off on first =
+      highest-one f (set vs k w) (length vs) _ _ (rw (length-set vs k w) at (best-highest f (set vs k w))) (go (best f vs) (best-highest f vs))
+    where
+      Most : (top j : ℕ) → VersionRecord → Type 0
+      Most top j v = j < length vs → f v ≡ true → v .version .0 ≤ top
+
+      Before : (at top j : ℕ) → VersionRecord → Type 0
+      Before at top j v = j < at → f v ≡ true → v .version .0 < top
+
+      here : recordAt (set vs k w) k ≡ w
+      here = getD-set-same vs k w emptyVersion in-table
+
+      go : (s : Selection) → Highest f vs (length vs) s → Highest f (set vs k w) (length vs) (raiseEarlier s k (w .version))
+      go None h =
+          record {
+            within = in-table;
+            version = rw here;
+            passes = rw here on;
+            most = set-either (Most (w .version .0)) (λ _ _. omega arith) (λ j ne l e. never (f (recordAt vs j)) (h j l) e);
+            first = set-either (Before k (w .version .0)) (λ l _. absurd (omega arith)) (λ j ne l e. never (f (recordAt vs j)) (h j (omega arith)) e);
+          }
+      go (Selected r) h =
+          by-test (Highest f (set vs k w) (length vs)) (leb (r .version .0) (w .version .0)) (row k (w .version)) (Selected r)
+          (λ t.
+          let up = leb-true (r .version .0) (w .version .0) t in
+          record {
+            within = in-table;
+            version = rw here;
+            passes = rw here on;
+            most = set-either (Most (w .version .0)) (λ _ _. omega arith) (λ j ne l e. omega (arith, h .most j l e));
+            first = set-either (Before k (w .version .0)) (λ l _. absurd (omega arith)) (λ j ne l e. omega (arith, h .most j (omega arith) e, first j l e));
+          })
+          (λ t.
+          let down = leb-false (r .version .0) (w .version .0) t in
+          let ne : r .at ≡ k → ⊥ = λ e. never (f (recordAt vs k)) off (subst (λ (i : ℕ). f (recordAt vs i) ≡ true) e (h .passes)) in
+          let kept = getD-set-other vs k (r .at) w emptyVersion ne in
+          record {
+            within = h .within;
+            version = rw kept (h .version);
+            passes = rw kept (h .passes);
+            most = set-either (Most (r .version .0)) (λ _ _. omega arith) (λ j ne. h .most j);
+            first = set-either (Before (r .at) (r .version .0)) (λ _ _. omega arith) (λ j ne. h .first j);
+          })
 
 raise-selected : (f : VersionRecord → Bool) (s : Selection) (i : ℕ) (v : VersionRecord) → isSelected (raiseIf f s i v) ≡ (isSelected s || f v)
 raise-selected f s i v = by-test (λ (t : Selection). isSelected t ≡ (isSelected s || f v)) (f v) (raise s i (v .version)) s (λ e. rw e (go s)) (λ e. rw (e, or-false))

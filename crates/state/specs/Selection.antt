@@ -3,7 +3,7 @@ use Prim.Native.Nat.{ℕ, _≤_, _<_}
 use mathlib.Core.Path.{_≡_}
 use mathlib.Core.Bool.{Bool, true, false, cond, _&&_}
 use mathlib.Core.List.{List}
-use lib.Dec.{ltb, eqb}
+use lib.Dec.{leb, ltb, eqb}
 use Rattle.quantity.specs.declared.Version.{Version}
 use Rattle.state.specs.Status.{counts}
 use Rattle.state.specs.Version.{isAt, recordAt}
@@ -21,6 +21,11 @@ row i n = Selected (record { at = i; version = n })
 abbrev pub raise : Selection → (at : ℕ) → Version → Selection
 raise None i n = row i n
 raise (Selected r) i n = cond (ltb (r .version .0) (n .0)) (row i n) (Selected r)
+
+-- a version beside the highest so far, where no record of its number stands before its own: of equal ones it is the first
+abbrev pub raiseEarlier : Selection → (at : ℕ) → Version → Selection
+raiseEarlier None i n = row i n
+raiseEarlier (Selected r) i n = cond (leb (r .version .0) (n .0)) (row i n) (Selected r)
 
 -- a record that passes the test is put beside it
 abbrev pub raiseIf : (VersionRecord → Bool) → Selection → (at : ℕ) → VersionRecord → Selection

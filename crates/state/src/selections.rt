@@ -7,7 +7,7 @@ use quantity::PointNo;
 use quantity::Version;
 ghost use mathlib.Core.Path.{_≡_};
 ghost use mathlib.Core.Bool.{cond};
-ghost use Rattle.state.specs.Selection.{raise, isCounted, isSelected, versionOf, orElse, inRun};
+ghost use Rattle.state.specs.Selection.{raise, raiseEarlier, isCounted, isSelected, versionOf, orElse, inRun};
 ghost use Rattle.state.specs.Version.{isAt, isVersion};
 
 pub fn is_at(v: VersionRecord, point: PointNo) -> bool
@@ -37,6 +37,22 @@ pub fn raised(s: Selection, at: u64, version: Version) -> Selection
         Selection::None => Selection::Selected(VersionRow { at, version }),
         Selection::Selected(row) => {
             if row.version.0 < version.0 {
+                Selection::Selected(VersionRow { at, version })
+            } else {
+                s
+            }
+        }
+    }
+}
+
+// The same, where no record of its number stands before its own.
+pub fn raised_earlier(s: Selection, at: u64, version: Version) -> Selection
+    ensures { λ r. ⌜ r ≡ raiseEarlier s at version ⌝ }
+{
+    match s {
+        Selection::None => Selection::Selected(VersionRow { at, version }),
+        Selection::Selected(row) => {
+            if row.version.0 <= version.0 {
                 Selection::Selected(VersionRow { at, version })
             } else {
                 s

@@ -11,6 +11,7 @@ use Rattle.quantity.proofs.Tests.{and-left, and-right}
 use Rattle.state.specs.Valid.{openingOk, validDesk}
 use Rattle.state.specs.declared.Desk.{Desk}
 use Rattle.state.specs.declared.Opening.{Opening}
+use Rattle.change.specs.Effect.{changedBy, unchangedIn, Fits}
 use Rattle.model.specs.Call.{Call, Stores, Told, Lengths, theBook, told}
 use Rattle.model.specs.Causes.{rule, rules, orIf, otherLengths, opensOk}
 use Rattle.model.specs.Step.{isOpening, refusalBy, granting, decided, step}
@@ -22,6 +23,7 @@ use Rattle.model.specs.declared.Cause.the-variants.{NotOpen}
 use Rattle.model.specs.declared.Verdict.{Verdict}
 use Rattle.model.specs.declared.Verdict.the-variants.{Fine, Refuse}
 use Rattle.verdict.specs.Lent.{sizes}
+use Rattle.verdict.specs.declared.Decided.{Decided}
 use Rattle.verdict.specs.Stepped.{Answered, BookStepped, Stepped, lent}
 use Rattle.model.specs.Laws.{Passed}
 use Rattle.model.proofs.Rules.{passed}
@@ -66,6 +68,11 @@ opens-book o gs e =
     let q = quartersOk (o .quarters) in
     let f = deadlinesOk (o .first .0) (o .clearing .0) (o .correction .0) in
     eqb-true (o .book) (162 * o .quarters) (and-left _ _ (and-right f _ (and-right q _ (and-left (openingOk o) _ e))))
+
+-- what a refusal decides
+pub unmoved : (d : Desk) {x : Cause} {r : Decided} → (r .answer ≡ Refused x) × (r .effect ≡ unchangedIn d)
+    → Fits d (r .effect) × ((r .answer ≡ Refused x) × (changedBy d (r .effect) ≡ d))
+unmoved d h = (rw (h .1) tt, (h .0, rw (h .1)))
 
 module _ (d : Desk) (c : Call) (s : Stores) {v : Verdict} (e : v ≡ refusalBy d (told (lent c s))) where
   -- a refused call changes nothing

@@ -1,7 +1,11 @@
-// What calls share: cause 1, and the outcome of a refusal.
+// What calls share: cause 1, and what is decided.
+use crate::Decided;
 use crate::Outcome;
 use crate::desks::is_open;
 use crate::rules::or_if;
+use change::Effect;
+use change::effects::changed;
+use change::effects::unchanged;
 use model::Answer;
 use model::Cause;
 use model::Verdict;
@@ -10,7 +14,8 @@ use state::Opening;
 ghost use mathlib.Core.Path.{_≡_};
 ghost use mathlib.Core.Bool.{not};
 ghost use Rattle.model.specs.Causes.{orIf};
-ghost use Rattle.model.specs.declared.Answer.the-variants.{Refused};
+ghost use Rattle.change.specs.Effect.{changedBy, unchangedIn, Fits};
+ghost use Rattle.model.specs.declared.Answer.the-variants.{Accepted, Refused};
 ghost use Rattle.model.specs.declared.Cause.the-variants.{NotOpen};
 ghost use Rattle.model.specs.declared.Verdict.the-variants.{Fine};
 ghost use Rattle.state.specs.Desk.{isOpen};
@@ -24,11 +29,34 @@ pub fn at_work(valid: bool, opening: Opening) -> Verdict
 }
 
 // A refusal changes nothing.
-pub fn refuse(d: Desk, cause: Cause) -> Outcome
-    ensures { λ r. ⌜ (r .answer ≡ Refused cause) × (r .desk ≡ d) ⌝ }
+pub fn refuse(d: Desk, cause: Cause) -> Decided
+    ensures { λ r. ⌜ (r .answer ≡ Refused cause) × (r .effect ≡ unchangedIn d) ⌝ }
 {
-    Outcome {
+    let effect = unchanged(d);
+    Decided {
         answer: Answer::Refused(cause),
-        desk: d,
+        effect,
+    }
+}
+
+pub fn accept(effect: Effect) -> Decided
+    ensures { λ r. ⌜ (r .answer ≡ Accepted) × (r .effect ≡ effect) ⌝ }
+{
+    Decided {
+        answer: Answer::Accepted,
+        effect,
+    }
+}
+
+// The desk after what was decided.
+pub fn outcome(d: Desk, r: Decided) -> Outcome
+    requires { ⌜ Fits d (r .effect) ⌝ }
+    ensures { λ o. ⌜ (o .answer ≡ r .answer) × (o .desk ≡ changedBy d (r .effect)) ⌝ }
+{
+    let answer = r.answer;
+    let effect = r.effect;
+    Outcome {
+        answer,
+        desk: changed(d, effect),
     }
 }

@@ -3,6 +3,7 @@ use crate::Look;
 use lookup::limits::frame_ok;
 use lookup::limits::rows_in;
 use lookup::points::scan;
+use lookup::points::state_at;
 use lookup::surveys::survey;
 use quantity::PointNo;
 use quantity::Version;
@@ -25,9 +26,11 @@ pub fn look(d: Desk, point: PointNo, version: Version, kind: u64, area: u64, par
     let versions = d.versions;
     let found = survey(versions, d.count, rows_in(opening), point, version);
     let seen = scan(points, kind, area, partner);
+    let here = state_at(points, point);
     let valid = frame_ok(opening, day, groups, d.count, d.used) & (seen.fit & found.fit);
     Look {
         valid,
+        here,
         taken: seen.taken,
         survey: found,
     }

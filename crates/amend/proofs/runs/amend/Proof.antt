@@ -1,32 +1,9 @@
 -- `amend` meets its contract. Assumes nothing.
-use mathlib.Core.Path.{_≡_, sym, _∙_}
-use lib.ListN.{take}
-use Rattle.model.specs.Step.{placeOf, amendRun}
-use Rattle.amend.proofs.Selected.{place-here}
+use mathlib.Core.Path.{sym}
+use Rattle.amend.proofs.Selected.{turn-fits}
 use borrow.Author.Needs.{needs}
 use Rattle.amend.proofs.runs.amend.Statement.{statement}
 use Rattle.amend.proofs.runs.amend.Tie as tie
-
--- the four places, by the table
-from1 : (c : tie.After-place-at4) → c .before .before .before .place-at .result ≡ placeOf (c .before .before .before .before .before .before .before .before .before .before .before .before .before .args .q) (take (c .before .before .before .before .before .before .before .before .before .before .before .before .before .args .count) (c .before .before .before .before .before .before .before .before .before .before .before .before .before .args .versions)) (c .before .before .before .before .before .before .before .before .before .before .before .before .before .args .t .old1)
-from1 c =
-    let a = c .before .before .before .before .before .before .before .before .before .before .before .before .before .args in
-    c .before .before .before .place-at .ensures ∙ place-here (a .q) (take (a .count) (a .versions)) (c .before .before .before .before .before .before .before .before .before .before .before .before .before .args .t .old1) (rw (c .before .before .before .before .before .before .before .before .index-of .ensures) at (c .before .before .before .before .rows-at .ensures .old1))
-
-to1 : (c : tie.After-place-at4) → c .before .before .place-at2 .result ≡ placeOf (c .before .before .before .before .before .before .before .before .before .before .before .before .before .args .q) (take (c .before .before .before .before .before .before .before .before .before .before .before .before .before .args .count) (c .before .before .before .before .before .before .before .before .before .before .before .before .before .args .versions)) (c .before .before .before .before .before .before .before .before .before .before .before .before .before .args .t .new1)
-to1 c =
-    let a = c .before .before .before .before .before .before .before .before .before .before .before .before .before .args in
-    c .before .before .place-at2 .ensures ∙ place-here (a .q) (take (a .count) (a .versions)) (c .before .before .before .before .before .before .before .before .before .before .before .before .before .args .t .new1) (rw (c .before .before .before .before .before .before .before .index-of2 .ensures) at (c .before .before .before .before .rows-at .ensures .new1))
-
-from2 : (c : tie.After-place-at4) → c .before .place-at3 .result ≡ placeOf (c .before .before .before .before .before .before .before .before .before .before .before .before .before .args .q) (take (c .before .before .before .before .before .before .before .before .before .before .before .before .before .args .count) (c .before .before .before .before .before .before .before .before .before .before .before .before .before .args .versions)) (c .before .before .before .before .before .before .before .before .before .before .or-else .result)
-from2 c =
-    let a = c .before .before .before .before .before .before .before .before .before .before .before .before .before .args in
-    c .before .place-at3 .ensures ∙ place-here (a .q) (take (a .count) (a .versions)) (c .before .before .before .before .before .before .before .before .before .before .or-else .result) (rw (c .before .before .before .before .before .before .index-of3 .ensures) at (c .before .before .before .before .rows-at .ensures .old2))
-
-to2 : (c : tie.After-place-at4) → c .place-at4 .result ≡ placeOf (c .before .before .before .before .before .before .before .before .before .before .before .before .before .args .q) (take (c .before .before .before .before .before .before .before .before .before .before .before .before .before .args .count) (c .before .before .before .before .before .before .before .before .before .before .before .before .before .args .versions)) (c .before .before .before .before .before .before .before .before .before .or-else2 .result)
-to2 c =
-    let a = c .before .before .before .before .before .before .before .before .before .before .before .before .before .args in
-    c .place-at4 .ensures ∙ place-here (a .q) (take (a .count) (a .versions)) (c .before .before .before .before .before .before .before .before .before .or-else2 .result) (rw (c .before .before .before .before .before .index-of4 .ensures) at (c .before .before .before .before .rows-at .ensures .new2))
 
 or-else-requires : tie.Need-or-else-requires
 or-else-requires c κs = search needs
@@ -34,32 +11,27 @@ or-else-requires c κs = search needs
 or-else-requires-2 : tie.Need-or-else-requires-2
 or-else-requires-2 c κs = search needs
 
-index-of-requires : tie.Need-index-of-requires
-index-of-requires c κs = search needs
-
-index-of-requires-2 : tie.Need-index-of-requires-2
-index-of-requires-2 c κs = search needs
-
-index-of-requires-3 : tie.Need-index-of-requires-3
-index-of-requires-3 c κs = search needs
-
-index-of-requires-4 : tie.Need-index-of-requires-4
-index-of-requires-4 c κs = search needs
-
-rows-at-requires : tie.Need-rows-at-requires
-rows-at-requires c κs = search needs
-
 place-at-requires : tie.Need-place-at-requires
-place-at-requires c κs = search needs
+place-at-requires c κs = let s = c .before .before .before .before in turn-fits (s .args .q) (s .args .values .now) (s .args .rows) (s .args .t) (search needs) (s .pre .1) .0
 
 place-at-requires-2 : tie.Need-place-at-requires-2
-place-at-requires-2 c κs = search needs
+place-at-requires-2 c κs = let s = c .before .before .before .before .before in turn-fits (s .args .q) (s .args .values .now) (s .args .rows) (s .args .t) (search needs) (s .pre .1) .1
+
+row-else-requires : tie.Need-row-else-requires
+row-else-requires c κs = search needs
 
 place-at-requires-3 : tie.Need-place-at-requires-3
-place-at-requires-3 c κs = search needs
+place-at-requires-3 c κs =
+    let s = c .before .before .before .before .before .before .before in
+    rw (c .row-else .ensures, c .before .before .before .before .or-else .ensures) (turn-fits (s .args .q) (s .args .values .now) (s .args .rows) (s .args .t) (search needs) (s .pre .1) .2)
+
+row-else-requires-2 : tie.Need-row-else-requires-2
+row-else-requires-2 c κs = search needs
 
 place-at-requires-4 : tie.Need-place-at-requires-4
-place-at-requires-4 c κs = search needs
+place-at-requires-4 c κs =
+    let s = c .before .before .before .before .before .before .before .before .before in
+    rw (c .row-else2 .ensures, c .before .before .before .before .before .or-else2 .ensures) (turn-fits (s .args .q) (s .args .values .now) (s .args .rows) (s .args .t) (search needs) (s .pre .1) .3)
 
 differs-requires : tie.Need-differs-requires
 differs-requires c κs = search needs
@@ -67,8 +39,8 @@ differs-requires c κs = search needs
 amend-run-requires : tie.Need-amend-run-requires
 amend-run-requires c κs =
     let p = c .before .before in
-    let s = p .before .before .before .before .before .before .before .before .before .before .before .before .before in
-    (s .pre .0, (rw (from1 p) (s .pre .1 .1 .old1), rw (to1 p) (s .pre .1 .1 .new1)))
+    let s = p .before .before .before .before .before .before .before .before .before .before in
+    (s .pre .0, (rw (p .before .before .before .before .before .place-at .ensures) (s .pre .1 .old1), rw (p .before .before .before .before .place-at2 .ensures) (s .pre .1 .new1)))
 
 differs-requires-2 : tie.Need-differs-requires-2
 differs-requires-2 c κs = search needs
@@ -76,25 +48,26 @@ differs-requires-2 c κs = search needs
 amend-run-requires-2 : tie.Need-amend-run-requires-2
 amend-run-requires-2 c κs =
     let p = c .before .before .before .before .before .before .before in
-    let s = p .before .before .before .before .before .before .before .before .before .before .before .before .before in (
+    let s = p .before .before .before .before .before .before .before .before .before .before in (
       (search needs, s .pre .0 .1),
-      (rw (from2 p, p .before .before .before .before .before .before .before .before .before .before .or-else .ensures) (s .pre .1 .1 .old2), rw (to2 p, p .before .before .before .before .before .before .before .before .before .or-else2 .ensures) (s .pre .1 .1 .new2)),
+      (rw (p .before .before .place-at3 .ensures, p .before .before .before .row-else .ensures, p .before .before .before .before .before .before .before .or-else .ensures) (s .pre .1 .old2), rw (p .place-at4 .ensures, p .before .row-else2 .ensures, p .before .before .before .before .before .before .or-else2 .ensures) (s .pre .1 .new2)),
     )
 
 same-length : tie.Need-same-length
 same-length c = search needs
 
 returns : tie.Need-returns
-unfolding amendRun
 returns c =
     let p = c .before .before .before .before .before .before .before .before .before .before in
     rw (
-      sym (p .before .before .before .before .before .before .before .before .before .before .or-else .ensures),
-      sym (p .before .before .before .before .before .before .before .before .before .or-else2 .ensures),
-      sym (from1 p),
-      sym (to1 p),
-      sym (from2 p),
-      sym (to2 p),
+      sym (p .before .before .before .row-else .ensures),
+      sym (p .before .row-else2 .ensures),
+      sym (p .before .before .before .before .before .before .before .or-else .ensures),
+      sym (p .before .before .before .before .before .before .or-else2 .ensures),
+      sym (p .before .before .before .before .before .place-at .ensures),
+      sym (p .before .before .before .before .place-at2 .ensures),
+      sym (p .before .before .place-at3 .ensures),
+      sym (p .place-at4 .ensures),
       sym (c .before .before .before .before .before .before .before .before .before .differs .ensures),
       sym (c .before .before .before .before .differs2 .ensures),
       sym (c .before .before .before .before .before .before .before .amend-run .ensures),
@@ -107,14 +80,11 @@ amend-spec =
     (tie.spec
     or-else-requires
     or-else-requires-2
-    index-of-requires
-    index-of-requires-2
-    index-of-requires-3
-    index-of-requires-4
-    rows-at-requires
     place-at-requires
     place-at-requires-2
+    row-else-requires
     place-at-requires-3
+    row-else-requires-2
     place-at-requires-4
     differs-requires
     amend-run-requires

@@ -1,6 +1,6 @@
 -- `place_at` meets its contract. Assumes nothing.
+use Prim.Native.Nat.{_*_, _^_, _<_}
 use native.Mathlib.Omega.{arith}
-use native.Mathlib.Nat.{mul-le-mul-right}
 use borrow.Author.Needs.{needs}
 use Rattle.amend.proofs.runs.place_at.Statement.{statement}
 use Rattle.amend.proofs.runs.place_at.Tie as tie
@@ -15,7 +15,10 @@ returns : tie.Need-returns
 returns c = search needs
 
 mul-t4 : tie.Need-mul-t4
-mul-t4 c = omega (arith, mul-le-mul-right (c .before .before .args .q) (c .before .before .pre .0))
+mul-t4 c =
+    let a = c .before .before .args in
+    let h : a .row * a .q < 2 ^ 64 = rw (c .enum-told .given .1) at (c .before .before .pre) in
+    omega arith
 
 returns-2 : tie.Need-returns-2
 returns-2 c = rw (c .enum-told .given .1)

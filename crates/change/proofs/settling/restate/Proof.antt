@@ -6,27 +6,34 @@ use lib.ListN.{length, take, getD}
 use borrow.Author.Needs.{needs}
 use Rattle.quantity.proofs.Lists.{length-of}
 use Rattle.state.specs.Version.{emptyVersion}
-use Rattle.state.proofs.Lists.{mapFirst-none, mapFirst-more}
-use Rattle.change.proofs.Tables.{point-in, point-range, settle-by}
+use Rattle.state.proofs.Lists.{mapFirst-none, mapFirst-next, mapFirst-more}
+use Rattle.change.proofs.TopVersions.{point-in, point-range, settle-by}
 use Rattle.state.specs.Change.{settle}
 use Rattle.state.specs.Walk.{mapFirst}
 use Rattle.change.proofs.settling.restate.Statement.{statement}
 use Rattle.change.proofs.settling.restate.Tie as tie
 
 abbrev Inv-loop : tie.InvT-loop
-Inv-loop count run versions tops vs₀ n i₀ vs i = (i ≤ n) × (n ≡ count) × (count ≤ 512) × (length versions ≡ 512) × (vs ≡ mapFirst i (settle run (take count versions)) versions)
+Inv-loop count run tops vs₀ n i₀ vs i = (i ≤ n) × (n ≡ count) × (count ≤ 512) × (length vs₀ ≡ 512) × (vs ≡ mapFirst i (settle run (take count vs₀)) vs₀)
 
 abbrev μ-loop : tie.MeasureT-loop
-μ-loop count run versions tops vs₀ n i₀ vs i = n - i
+μ-loop count run tops vs₀ n i₀ vs i = n - i
 
-range : (c : tie.In-loop Inv-loop μ-loop) → (1 ≤ getD (c .before .before .args .t1) (c .before .loop .i) emptyVersion .point .0) × (getD (c .before .before .args .t1) (c .before .loop .i) emptyVersion .point .0 ≤ 256)
+-- the record that comes next, as it was
+next : (c : tie.In-loop Inv-loop μ-loop) → getD (c .before .loop .vs) (c .before .loop .i) emptyVersion ≡ getD (c .before .before .args .versions) (c .before .loop .i) emptyVersion
+next c =
+    let a = c .before .before .args in
+    let l = c .before .loop in
+    rw (l .inv .4) (mapFirst-next (settle (a .run) (take (a .count) (a .versions))) (a .versions) (l .i) emptyVersion)
+
+range : (c : tie.In-loop Inv-loop μ-loop) → (1 ≤ getD (c .before .loop .vs) (c .before .loop .i) emptyVersion .point .0) × (getD (c .before .loop .vs) (c .before .loop .i) emptyVersion .point .0 ≤ 256)
 range c =
     let s = c .before .before in
-    point-range (s .args .t1) (s .args .count) (c .before .loop .i) (s .pre .1 .0) (omega arith) (omega arith)
+    rw (next c) (point-range (s .args .versions) (s .args .count) (c .before .loop .i) (s .pre .1 .0) (omega arith) (omega arith))
 
 loop-holds : tie.Need-loop-holds Inv-loop μ-loop
 loop-holds c = let a = c .args in
-    (omega arith, refl, c .pre .0, search (needs, length-of), mapFirst-none (settle (a .run) (take (a .count) (a .t1))) (a .t1))
+    (omega arith, refl, c .pre .0, search (needs, length-of), mapFirst-none (settle (a .run) (take (a .count) (a .versions))) (a .versions))
 
 mul-v : tie.Need-mul-v Inv-loop μ-loop
 mul-v c = omega arith
@@ -66,14 +73,14 @@ loop-again c =
     let s = c .before .before .before .before in
     let a = s .before .args in
     let l = s .loop in
-    let vs = take (a .count) (a .t1) in
-    let ok = point-in (a .t1) (a .count) (l .i) (s .before .pre .1 .0) (omega arith) (omega arith) in (
+    let vs = take (a .count) (a .versions) in
+    let ok = point-in (a .versions) (a .count) (l .i) (s .before .pre .1 .0) (omega arith) (omega arith) in (
       omega arith,
       refl,
       l .inv .2,
       l .inv .3,
-      rw (l .inv .4, c .settled-record .ensures ∙ settle-by (a .run) vs (a .t4) (getD (a .t1) (l .i) emptyVersion) (s .before .pre .1 .1) ok)
-          (mapFirst-more (settle (a .run) vs) (a .t1) (l .i) emptyVersion (omega arith)),
+      rw (l .inv .4, (rw (next (c .before .before .before)) at (c .settled-record .ensures)) ∙ settle-by (a .run) vs (a .t4) (getD (a .versions) (l .i) emptyVersion) (s .before .pre .1 .1) ok)
+          (mapFirst-more (settle (a .run) vs) (a .versions) (l .i) emptyVersion (omega arith)),
     )
 
 returns : tie.Need-returns Inv-loop μ-loop

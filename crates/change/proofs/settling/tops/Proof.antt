@@ -7,7 +7,7 @@ use borrow.Author.Needs.{needs}
 use Rattle.quantity.proofs.Lists.{length-of}
 use Rattle.change.specs.Settling.{Tops}
 use Rattle.state.specs.Version.{emptyVersion}
-use Rattle.change.proofs.Tables.{point-in, point-range, tops-none, tops-more}
+use Rattle.change.proofs.TopVersions.{point-in, point-range, tops-none, tops-more}
 use Rattle.change.proofs.settling.tops.Statement.{statement}
 use Rattle.change.proofs.settling.tops.Tie as tie
 

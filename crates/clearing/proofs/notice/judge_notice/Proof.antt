@@ -16,16 +16,13 @@ use borrow.Author.Needs.{needs}
 use Rattle.clearing.proofs.notice.judge_notice.Statement.{statement}
 use Rattle.clearing.proofs.notice.judge_notice.Tie as tie
 
--- the turn on a valid desk
-turn-of : (c : tie.After-due-by) → validDesk (c .before .before .before .before .args .d) ≡ true
-    → Turned (versionsIn (c .before .before .before .before .args .d)) (noticedIn (c .before .before .before .before .args .d) (c .before .before .before .before .args .point .0) (c .before .before .before .before .args .version .0) (c .before .before .before .before .args .verdict) (c .before .before .before .before .args .day .0)) (c .before .before .before .before .args .point .0) (c .before .notice-turn .result)
-turn-of c v =
-    let a = c .before .before .before .before .args in
-    let l = c .before .before .before .look .ensures in
-    turned-notice (a .d) (a .point .0) (a .version .0) (a .verdict) (a .day .0) (c .before .before .before .look .result .survey) (c .before .notice-turn .result) (sound (a .d) v .count) (l .table) (l .survey) (c .before .notice-turn .ensures)
-
-look-requires : tie.Need-look-requires
-look-requires c κs = search needs
+-- the turn
+turn-of : (c : tie.After-due-by)
+    → Turned (versionsIn (c .before .before .before .before .before .args .d)) (noticedIn (c .before .before .before .before .before .args .d) (c .before .before .before .before .before .args .point .0) (c .before .before .before .before .before .args .version .0) (c .before .before .before .before .before .args .verdict) (c .before .before .before .before .before .args .day .0)) (c .before .before .before .before .before .args .point .0) (c .before .notice-turn .result)
+turn-of c =
+    let s = c .before .before .before .before .before in
+    let a = s .args in
+    turned-notice (a .d) (a .point .0) (a .version .0) (a .verdict) (a .day .0) (a .l .survey) (c .before .notice-turn .result) (s .pre .survey) (c .before .notice-turn .ensures)
 
 notice-turn-requires : tie.Need-notice-turn-requires
 notice-turn-requires c κs = search needs
@@ -36,9 +33,9 @@ due-by-requires c κs = search needs
 returns : tie.Need-returns
 unfolding refusalBy firstOf fold orIf
 returns c =
-    let a = c .before .before .before .before .before .before .args in
-    let l = c .before .before .before .before .before .look .ensures in
-    let e : validDesk (a .d) ≡ false = sym (l .valid) ∙ not-true _ (c .if1 .taken) in
+    let s = c .before .before .before .before .before .before .before in
+    let l = s .pre in
+    let e : validDesk (s .args .d) ≡ false = sym (l .valid) ∙ not-true _ (c .if1 .taken) in
     record {
       table = l .table;
       found = l .survey .held;
@@ -49,23 +46,23 @@ returns c =
 
 notice-checks-requires : tie.Need-notice-checks-requires
 notice-checks-requires c κs =
-    let a = c .before .before .before .before .before .before .args in
-    let l = c .before .before .before .before .before .look .ensures in
-    let e : validDesk (a .d) ≡ true = sym (l .valid) ∙ not-false _ (c .if1 .left) in
-    let t = turn-of (c .before .before) e in (
+    let s = c .before .before .before .before .before .before .before in
+    let a = s .args in
+    let l = s .pre in
+    let e : validDesk (a .d) ≡ true = sym (l .valid) ∙ not-false _ (c .if1 .left) in (
       sound (a .d) e,
       (
-        l .survey,
-        c .before .before .due-by .ensures ∙ turned-due (versionsIn (a .d)) (noticedIn (a .d) (a .point .0) (a .version .0) (a .verdict) (a .day .0)) (a .point .0) (a .day .0) (c .before .before .before .notice-turn .result) t,
+        l,
+        c .before .before .due-by .ensures ∙ turned-due (versionsIn (a .d)) (noticedIn (a .d) (a .point .0) (a .version .0) (a .verdict) (a .day .0)) (a .point .0) (a .day .0) (c .before .before .before .notice-turn .result) (turn-of (c .before .before)),
       ),
     )
 
 returns-2 : tie.Need-returns-2
 unfolding refusalBy firstOf fold orIf
 returns-2 c =
-    let a = c .before .before .before .before .before .before .before .args in
-    let l = c .before .before .before .before .before .before .look .ensures in
-    let e : validDesk (a .d) ≡ true = sym (l .valid) ∙ not-false _ (c .before .if1 .left) in
+    let s = c .before .before .before .before .before .before .before .before in
+    let l = s .pre in
+    let e : validDesk (s .args .d) ≡ true = sym (l .valid) ∙ not-false _ (c .before .if1 .left) in
     record {
       table = l .table;
       found = l .survey .held;
@@ -78,7 +75,6 @@ pub judge-notice-spec : {M : Type 1} → statement M
 judge-notice-spec =
     tie.close
     (tie.spec
-    look-requires
     notice-turn-requires
     due-by-requires
     returns

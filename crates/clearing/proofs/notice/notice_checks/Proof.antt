@@ -10,9 +10,6 @@ use borrow.Author.Needs.{needs}
 use Rattle.clearing.proofs.notice.notice_checks.Statement.{statement}
 use Rattle.clearing.proofs.notice.notice_checks.Tie as tie
 
-state-at-requires : tie.Need-state-at-requires
-state-at-requires c κs = search needs
-
 is-open-requires : tie.Need-is-open-requires
 is-open-requires c κs = search needs
 
@@ -56,7 +53,7 @@ or-if-requires-8 : tie.Need-or-if-requires-8
 or-if-requires-8 c κs = search needs
 
 log-full-requires : tie.Need-log-full-requires
-log-full-requires c κs = c .before .before .before .before .before .before .before .before .before .before .before .before .before .before .before .before .before .before .before .before .before .pre .0 .used
+log-full-requires c κs = c .before .before .before .before .before .before .before .before .before .before .before .before .before .before .before .before .before .before .before .before .pre .0 .used
 
 or-if-requires-9 : tie.Need-or-if-requires-9
 or-if-requires-9 c κs = search needs
@@ -64,10 +61,10 @@ or-if-requires-9 c κs = search needs
 returns : tie.Need-returns
 unfolding firstOf fold
 returns c =
-    let s = c .before .before .before .before .before .before .before .before .before .before .before .before .before .before .before .before .before .before .before .before .before .before .before in
+    let s = c .before .before .before .before .before .before .before .before .before .before .before .before .before .before .before .before .before .before .before .before .before .before in
     let a = s .args in
-    let f = s .pre .1 .0 in
-    let here = c .before .before .before .before .before .before .before .before .before .before .before .before .before .before .before .before .before .before .before .before .state-at .ensures in
+    let f = s .pre .1 .0 .survey in
+    let here = s .pre .1 .0 .here in
     let k0 = checked NotOpen (c .before .before .before .before .before .before .before .before .before .before .before .before .before .before .before .before .before .before .or-if .ensures) refl (ap not (c .before .before .before .before .before .before .before .before .before .before .before .before .before .before .before .before .before .before .before .is-open .ensures)) in
     let k1 = checked WrongLength (c .before .before .before .before .before .before .before .before .before .before .before .before .before .before .before .before .or-if2 .ensures) k0 (c .before .before .before .before .before .before .before .before .before .before .before .before .before .before .before .before .before .other-lengths .ensures) in
     let k2 = checked BadField (c .before .before .before .before .before .before .before .before .before .before .before .before .before .before .or-if3 .ensures) k1 (ap not (c .before .before .before .before .before .before .before .before .before .before .before .before .before .before .before .notice-ok .ensures)) in
@@ -82,7 +79,6 @@ pub notice-checks-spec : {M : Type 1} → statement M
 notice-checks-spec =
     tie.close
     (tie.spec
-    state-at-requires
     is-open-requires
     or-if-requires
     other-lengths-requires

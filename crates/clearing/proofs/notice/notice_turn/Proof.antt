@@ -4,22 +4,24 @@ use borrow.Author.Needs.{needs}
 use Rattle.clearing.proofs.notice.notice_turn.Statement.{statement}
 use Rattle.clearing.proofs.notice.notice_turn.Tie as tie
 
-with-notice-requires : tie.Need-with-notice-requires
-with-notice-requires c κs = search needs
+confirmed-status-requires : tie.Need-confirmed-status-requires
+confirmed-status-requires c κs = search needs
 
-look-requires : tie.Need-look-requires
-look-requires c κs = search needs
+own-after-requires : tie.Need-own-after-requires
+own-after-requires c κs = search needs
+
+own-after-requires-2 : tie.Need-own-after-requires-2
+own-after-requires-2 c κs = search needs
 
 returns : tie.Need-returns
 returns c =
-    let n = c .before .before .with-notice .ensures in
-    let f = c .before .look .ensures .survey in
+    let s = c .before .before .confirmed-status .ensures in
     record {
       old1 = refl;
-      new1 = f .first ∙ rw n;
+      new1 = c .before .own-after .ensures ∙ rw s;
       old2 = refl;
-      new2 = f .second ∙ rw n;
+      new2 = c .own-after2 .ensures ∙ rw s;
     }
 
 pub notice-turn-spec : {M : Type 1} → statement M
-notice-turn-spec = tie.close (tie.spec with-notice-requires look-requires returns)
+notice-turn-spec = tie.close (tie.spec confirmed-status-requires own-after-requires own-after-requires-2 returns)

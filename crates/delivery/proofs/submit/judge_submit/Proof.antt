@@ -17,15 +17,12 @@ use Rattle.delivery.proofs.submit.judge_submit.Statement.{statement}
 use Rattle.delivery.proofs.submit.judge_submit.Tie as tie
 
 -- the turn on a valid desk
-turn-of : (c : tie.After-due-by) → validDesk (c .before .before .before .before .before .before .args .d) ≡ true
-    → Turned (versionsIn (c .before .before .before .before .before .before .args .d)) (submittedIn (c .before .before .before .before .before .before .args .d) (c .before .before .before .before .before .before .args .point .0) (c .before .before .before .before .before .before .args .version .0) (c .before .before .before .before .before .before .args .day .0)) (c .before .before .before .before .before .before .args .point .0) (c .before .submit-turn .result)
+turn-of : (c : tie.After-due-by) → validDesk (c .before .before .before .before .before .args .d) ≡ true
+    → Turned (versionsIn (c .before .before .before .before .before .args .d)) (submittedIn (c .before .before .before .before .before .args .d) (c .before .before .before .before .before .args .point .0) (c .before .before .before .before .before .args .version .0) (c .before .before .before .before .before .args .day .0)) (c .before .before .before .before .before .args .point .0) (c .before .submit-turn .result)
 turn-of c v =
-    let a = c .before .before .before .before .before .before .args in
-    let l = c .before .before .before .before .look .ensures in
-    turned-submit (a .d) (a .point .0) (a .day .0) (a .version) (c .before .before .before .before .look .result .survey) (c .before .submit-turn .result) (sound (a .d) v .count) (l .table) (l .survey) (c .before .submit-turn .ensures)
-
-look-requires : tie.Need-look-requires
-look-requires c κs = search needs
+    let s = c .before .before .before .before .before in
+    let a = s .args in
+    turned-submit (a .d) (a .point .0) (a .day .0) (a .version) (a .l .survey) (c .before .submit-turn .result) (sound (a .d) v .count) (s .pre .table) (s .pre .survey) (c .before .submit-turn .ensures)
 
 submit-turn-requires : tie.Need-submit-turn-requires
 submit-turn-requires c κs = search needs
@@ -36,10 +33,10 @@ due-by-requires c κs = search needs
 returns : tie.Need-returns
 unfolding refusalBy firstOf fold orIf
 returns c =
-    let a = c .before .before .before .before .before .before .before .before .args in
-    let e : validDesk (a .d) ≡ false = sym (c .before .before .before .before .before .before .look .ensures .valid) ∙ not-true _ (c .if1 .taken) in
+    let s = c .before .before .before .before .before .before .before in
+    let e : validDesk (s .args .d) ≡ false = sym (s .pre .valid) ∙ not-true _ (c .if1 .taken) in
     record {
-      table = c .before .before .before .before .before .before .look .ensures .table;
+      table = s .pre .table;
       verdict = rw e;
       turn = turn-of (c .before .before);
       due = c .before .before .due-by .ensures;
@@ -47,14 +44,15 @@ returns c =
 
 submit-checks-requires : tie.Need-submit-checks-requires
 submit-checks-requires c κs =
-    let a = c .before .before .before .before .before .before .before .before .args in
-    let l = c .before .before .before .before .before .before .look .ensures in
+    let s = c .before .before .before .before .before .before .before in
+    let a = s .args in
+    let l = s .pre in
     let e : validDesk (a .d) ≡ true = sym (l .valid) ∙ not-false _ (c .if1 .left) in
     let o = sound (a .d) e in
     let t = turn-of (c .before .before) e in (
       o,
       (
-        l .survey,
+        l,
         (
           length-held (a .d) (o .count) (l .table),
           c .before .before .due-by .ensures ∙ turned-due (versionsIn (a .d)) (submittedIn (a .d) (a .point .0) (a .version .0) (a .day .0)) (a .point .0) (a .day .0) (c .before .before .before .submit-turn .result) t,
@@ -65,10 +63,10 @@ submit-checks-requires c κs =
 returns-2 : tie.Need-returns-2
 unfolding refusalBy firstOf fold orIf
 returns-2 c =
-    let a = c .before .before .before .before .before .before .before .before .before .args in
-    let e : validDesk (a .d) ≡ true = sym (c .before .before .before .before .before .before .before .look .ensures .valid) ∙ not-false _ (c .before .if1 .left) in
+    let s = c .before .before .before .before .before .before .before .before in
+    let e : validDesk (s .args .d) ≡ true = sym (s .pre .valid) ∙ not-false _ (c .before .if1 .left) in
     record {
-      table = c .before .before .before .before .before .before .before .look .ensures .table;
+      table = s .pre .table;
       verdict = rw e (c .submit-checks .ensures);
       turn = turn-of (c .before .before .before);
       due = c .before .before .before .due-by .ensures;
@@ -77,10 +75,4 @@ returns-2 c =
 pub judge-submit-spec : {M : Type 1} → statement M
 judge-submit-spec =
     tie.close
-    (tie.spec
-    look-requires
-    submit-turn-requires
-    due-by-requires
-    returns
-    submit-checks-requires
-    returns-2)
+    (tie.spec submit-turn-requires due-by-requires returns submit-checks-requires returns-2)

@@ -18,9 +18,6 @@ use borrow.Author.Needs.{needs}
 use Rattle.delivery.proofs.submit.submit_checks.Statement.{statement}
 use Rattle.delivery.proofs.submit.submit_checks.Tie as tie
 
-state-at-requires : tie.Need-state-at-requires
-state-at-requires c κs = search needs
-
 is-open-requires : tie.Need-is-open-requires
 is-open-requires c κs = search needs
 
@@ -70,13 +67,13 @@ or-if-requires-9 : tie.Need-or-if-requires-9
 or-if-requires-9 c κs = search needs
 
 no-row-requires : tie.Need-no-row-requires
-no-row-requires c κs = (c .before .before .before .before .before .before .before .before .before .before .before .before .before .before .before .before .before .before .before .before .before .before .before .before .before .before .pre .0 .count, c .before .before .before .before .before .before .before .before .before .before .before .before .before .before .before .before .before .before .before .before .before .before .before .before .before .before .pre .0 .most)
+no-row-requires c κs = (c .before .before .before .before .before .before .before .before .before .before .before .before .before .before .before .before .before .before .before .before .before .before .before .before .before .pre .0 .count, c .before .before .before .before .before .before .before .before .before .before .before .before .before .before .before .before .before .before .before .before .before .before .before .before .before .pre .0 .most)
 
 or-if-requires-10 : tie.Need-or-if-requires-10
 or-if-requires-10 c κs = search needs
 
 log-full-requires : tie.Need-log-full-requires
-log-full-requires c κs = c .before .before .before .before .before .before .before .before .before .before .before .before .before .before .before .before .before .before .before .before .before .before .before .before .before .before .before .before .pre .0 .used
+log-full-requires c κs = c .before .before .before .before .before .before .before .before .before .before .before .before .before .before .before .before .before .before .before .before .before .before .before .before .before .before .before .pre .0 .used
 
 or-if-requires-11 : tie.Need-or-if-requires-11
 or-if-requires-11 c κs = search needs
@@ -84,11 +81,11 @@ or-if-requires-11 c κs = search needs
 returns : tie.Need-returns
 unfolding firstOf fold
 returns c =
-    let s = c .before .before .before .before .before .before .before .before .before .before .before .before .before .before .before .before .before .before .before .before .before .before .before .before .before .before .before .before .before .before in
+    let s = c .before .before .before .before .before .before .before .before .before .before .before .before .before .before .before .before .before .before .before .before .before .before .before .before .before .before .before .before .before in
     let a = s .args in
-    let f = s .pre .1 .0 in
+    let f = s .pre .1 .0 .survey in
     let n = s .pre .1 .1 .0 in
-    let here = c .before .before .before .before .before .before .before .before .before .before .before .before .before .before .before .before .before .before .before .before .before .before .before .before .before .before .state-at .ensures in
+    let here = s .pre .1 .0 .here in
     let k0 = checked NotOpen (c .before .before .before .before .before .before .before .before .before .before .before .before .before .before .before .before .before .before .before .before .before .before .before .before .or-if .ensures) refl (ap not (c .before .before .before .before .before .before .before .before .before .before .before .before .before .before .before .before .before .before .before .before .before .before .before .before .before .is-open .ensures)) in
     let k1 = checked WrongLength (c .before .before .before .before .before .before .before .before .before .before .before .before .before .before .before .before .before .before .before .before .before .before .or-if2 .ensures) k0 (c .before .before .before .before .before .before .before .before .before .before .before .before .before .before .before .before .before .before .before .before .before .before .before .other-lengths .ensures) in
     let k2 = checked BadField (c .before .before .before .before .before .before .before .before .before .before .before .before .before .before .before .before .before .before .before .before .or-if3 .ensures) k1 (ap not (c .before .before .before .before .before .before .before .before .before .before .before .before .before .before .before .before .before .before .before .before .before .submit-ok .ensures)) in
@@ -105,7 +102,6 @@ pub submit-checks-spec : {M : Type 1} → statement M
 submit-checks-spec =
     tie.close
     (tie.spec
-    state-at-requires
     is-open-requires
     or-if-requires
     other-lengths-requires

@@ -28,9 +28,6 @@ or-if-requires-2 c κs = tt
 or-if-requires-3 : tie.Need-or-if-requires-3
 or-if-requires-3 c κs = tt
 
-state-at-requires : tie.Need-state-at-requires
-state-at-requires c κs = tt
-
 is-active-requires : tie.Need-is-active-requires
 is-active-requires c κs = tt
 
@@ -43,10 +40,10 @@ or-if-requires-5 c κs = tt
 returns : tie.Need-returns
 unfolding refusalBy firstOf fold
 returns c n =
-    let c3 = c .before .before .before .before in
+    let c3 = c .before .before .before in
     let c1 = c3 .before .before .before .before .before .before in
     let o = c1 .before .before in
-    let k = o .before .before .before .before .before .pre in
+    let k = o .before .before .before .before .pre in
     checked _ (c .or-if5 .ensures)
     (checked _ (c .before .or-if4 .ensures)
     (checked _ (c3 .or-if3 .ensures)
@@ -56,7 +53,7 @@ returns c n =
     (rw (o .before .before .point-ok .ensures, o .before .day-ok .ensures, o .series-ok .ensures)))
     refl)
     refl)
-    (rw (c .before .before .is-active .ensures, c .before .before .before .state-at .ensures)))
+    (rw (c .before .before .is-active .ensures, k .here)))
     (k .taken)
 
 pub activate-verdict-spec : {M : Type 1} → statement M
@@ -70,7 +67,6 @@ activate-verdict-spec =
     or-if-requires
     or-if-requires-2
     or-if-requires-3
-    state-at-requires
     is-active-requires
     or-if-requires-4
     or-if-requires-5

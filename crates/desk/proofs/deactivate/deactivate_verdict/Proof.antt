@@ -26,9 +26,6 @@ or-if-requires-2 c κs = tt
 or-if-requires-3 : tie.Need-or-if-requires-3
 or-if-requires-3 c κs = tt
 
-state-at-requires : tie.Need-state-at-requires
-state-at-requires c κs = tt
-
 is-active-requires : tie.Need-is-active-requires
 is-active-requires c κs = tt
 
@@ -44,10 +41,10 @@ or-if-requires-5 c κs = tt
 returns : tie.Need-returns
 unfolding refusalBy firstOf fold
 returns c n =
-    let c3 = c .before .before .before .before .before in
+    let c3 = c .before .before .before .before in
     let c1 = c3 .before .before .before .before .before .before in
     let o = c1 .before .before .before in
-    let k = o .before .before .before .before .pre in
+    let k = o .before .before .before .pre in
     checked _ (c .or-if5 .ensures)
     (checked _ (c .before .before .or-if4 .ensures)
     (checked _ (c3 .or-if3 .ensures)
@@ -57,7 +54,7 @@ returns c n =
     (rw (c1 .before .before .point-ok .ensures, c1 .before .day-ok .ensures)))
     refl)
     refl)
-    (rw (c .before .before .before .is-active .ensures, c .before .before .before .before .state-at .ensures)))
+    (rw (c .before .before .before .is-active .ensures, k .here)))
     (rw (c .before .is-selected .ensures, k .survey .highest) (best-any _ _))
 
 pub deactivate-verdict-spec : {M : Type 1} → statement M
@@ -70,7 +67,6 @@ deactivate-verdict-spec =
     or-if-requires
     or-if-requires-2
     or-if-requires-3
-    state-at-requires
     is-active-requires
     or-if-requires-4
     is-selected-requires

@@ -1,61 +1,19 @@
--- `open` meets its contract. Assumes nothing.
-use mathlib.Core.Path.{refl, sym, ap, _∙_}
-use Prim.Native.Nat.{ℕ}
-use borrow.Author.Tests.{not-false}
-use lib.ListN.{replicate}
-use Rattle.verdict.proofs.Deciding.{allowed, opens-book, all-refused, all-granted}
+-- `open` meets its contract, by what is decided. Assumes nothing.
 use borrow.Author.Needs.{needs}
 use Rattle.desk.proofs.open.open.Statement.{statement}
 use Rattle.desk.proofs.open.open.Tie as tie
 
-open-verdict-requires : tie.Need-open-verdict-requires
-open-verdict-requires c κs = search needs
+decide-open-requires : tie.Need-decide-open-requires
+decide-open-requires c κs = search needs
 
-enum-known-v : tie.Need-enum-known-v
-enum-known-v c = search needs
-
-refuse-requires : tie.Need-refuse-requires
-refuse-requires c κs = tt
-
-enum-told : tie.Need-enum-told
-enum-told c = search needs
-
-clear-requires : tie.Need-clear-requires
-clear-requires c κs = search needs
-
-opened-requires : tie.Need-opened-requires
-opened-requires c κs = search needs
-
-returns : tie.Need-returns
-returns c = all-refused _ _ _ (c .before .before .before .before .open-verdict .ensures) (c .before .before .v .given .1) (c .refuse .ensures)
+outcome-requires : tie.Need-outcome-requires
+outcome-requires c κs = search needs
 
 same-length : tie.Need-same-length
 same-length c = search needs
 
-returns-2 : tie.Need-returns-2
-returns-2 c =
-    let v = c .before .before .before .before .before .before .before .open-verdict .ensures in
-    let e = c .before .before .before .before .before .enum-told .given .1 in
-    let h = allowed _ _ (sym v ∙ e) in
-    all-granted _ _ _ v e
-    (record {
-      answered = refl;
-      held = c .opened .ensures;
-      valued = refl;
-      booked = c .before .before .before .clear .ensures ∙ ap (λ (n : ℕ). replicate n 0) (opens-book _ _ (not-false _ (h .1 .1 .0)));
-      noted = refl;
-    })
+returns : tie.Need-returns
+returns c = let o = c .outcome .ensures in rw (o .0, o .1) (c .before .before .before .decide-open .ensures .1)
 
 pub open-spec : {M : Type 1} → statement M
-open-spec =
-    tie.close
-    (tie.spec
-    open-verdict-requires
-    enum-known-v
-    refuse-requires
-    enum-told
-    clear-requires
-    opened-requires
-    returns
-    same-length
-    returns-2)
+open-spec = tie.close (tie.spec decide-open-requires outcome-requires same-length returns)

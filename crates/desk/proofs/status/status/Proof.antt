@@ -15,9 +15,6 @@ status-verdict-requires c κs = search needs
 enum-known-v : tie.Need-enum-known-v
 enum-known-v c = search needs
 
-refuse-requires : tie.Need-refuse-requires
-refuse-requires c κs = tt
-
 enum-told : tie.Need-enum-told
 enum-told c = search needs
 
@@ -25,7 +22,7 @@ status-answer-requires : tie.Need-status-answer-requires
 status-answer-requires c κs = search needs
 
 returns : tie.Need-returns
-returns c s = answer-refused _ _ s (c .before .before .before .before .status-verdict .ensures (lengthsOf s)) (c .before .before .v .given .1) (c .refuse .ensures)
+returns c s = answer-refused _ _ s (c .before .before .before .status-verdict .ensures (lengthsOf s)) (c .before .v .given .1) (refl, refl)
 
 returns-2 : tie.Need-returns-2
 returns-2 c s =
@@ -39,7 +36,6 @@ status-spec =
     look-requires
     status-verdict-requires
     enum-known-v
-    refuse-requires
     enum-told
     status-answer-requires
     returns

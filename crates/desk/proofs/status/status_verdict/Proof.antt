@@ -18,9 +18,6 @@ version-ok-requires c κs = tt
 or-if-requires : tie.Need-or-if-requires
 or-if-requires c κs = tt
 
-state-at-requires : tie.Need-state-at-requires
-state-at-requires c κs = tt
-
 is-active-requires : tie.Need-is-active-requires
 is-active-requires c κs = tt
 
@@ -36,15 +33,15 @@ or-if-requires-3 c κs = tt
 returns : tie.Need-returns
 unfolding refusalBy firstOf fold
 returns c n =
-    let c1 = c .before .before .before .before .before in
+    let c1 = c .before .before .before .before in
     let o = c1 .before .before .before in
-    let k = o .before .before .before .before .pre in
+    let k = o .before .before .before .pre in
     checked _ (c .or-if3 .ensures)
     (checked _ (c .before .before .or-if2 .ensures)
     (checked _ (c1 .or-if .ensures)
     (begun _ (o .at-work .ensures) (k .valid))
     (rw (c1 .before .before .point-ok .ensures, c1 .before .version-ok .ensures)))
-    (rw (c .before .before .before .is-active .ensures, c .before .before .before .before .state-at .ensures)))
+    (rw (c .before .before .before .is-active .ensures, k .here)))
     (rw (c .before .absent .ensures, k .survey .held))
 
 pub status-verdict-spec : {M : Type 1} → statement M
@@ -55,7 +52,6 @@ status-verdict-spec =
     point-ok-requires
     version-ok-requires
     or-if-requires
-    state-at-requires
     is-active-requires
     or-if-requires-2
     absent-requires

@@ -18,7 +18,7 @@ amend-requires : tie.Need-amend-requires
 amend-requires c κs =
     let s = c .before .before .before .before .before in
     let g = s .pre .0 in
-    ((search needs, rw (c .before .sides-of .ensures) (sides-in (s .args .groups) (groups-long s) (g .allotted) (s .args .here) (g .fit))), (s .pre .1 .0, g .turn))
+    ((search needs, rw (c .before .sides-of .ensures) (sides-in (s .args .groups) (groups-long s) (g .allotted) (s .args .here) (g .fit))), g .turn)
 
 put-row-requires : tie.Need-put-row-requires
 put-row-requires c κs = search needs
@@ -26,7 +26,7 @@ put-row-requires c κs = search needs
 used-after-requires : tie.Need-used-after-requires
 used-after-requires c κs =
     let s = c .before .before .before .before .before .before .before .before .before .before .before .before in
-    room-counted (s .args .used) (s .args .log .now) (s .args .due) (search needs) (s .pre .1 .1)
+    room-counted (s .args .used) (s .args .log .now) (s .args .due) (search needs) (s .pre .1)
 
 same-length : tie.Need-same-length
 same-length c = search needs

@@ -41,8 +41,9 @@ same-length-3 c = search needs
 returns : tie.Need-returns
 returns c =
     let k = c .before .before .before .before .before .before .before .before .before .before in
+    let h = c .before .before .before .before .before .before .hand-on .ensures in
     rw (sym (k .before .before .before .call-of .ensures), sym (k .groups-of .ensures))
-    (handed-by _ _ (k .before .lent-of .ensures) (k .before .before .quarters-for .ensures _ _) (c .before .before .before .before .before .before .hand-on .ensures))
+    (h .0, handed-by _ _ (k .before .lent-of .ensures) (k .before .before .quarters-for .ensures _ _) (h .1))
 
 pub hand-part-spec : {M : Type 1} → statement M
 hand-part-spec =

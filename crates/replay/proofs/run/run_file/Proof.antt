@@ -1,13 +1,18 @@
 -- `run_file` meets its contract: what remains of the file, done from here on, gives what the whole gives. Assumes nothing.
-use Prim.Native.Nat.{_-_}
+use Prim.Native.Nat.{_-_, _<_}
 use mathlib.Core.Path.{_≡_, refl, _∙_}
+use mathlib.Core.Logic.{⊎-elim}
 use native.Mathlib.Omega.{arith}
 use lib.ListN.{length, length-set}
+use Rattle.state.proofs.Bounds.{sound}
+use Rattle.change.specs.Effect.{pointsBy, versionsBy}
+use Rattle.change.proofs.Applied.{applied}
+use Rattle.change.proofs.TopVersions.{points-in}
 use Rattle.verdict.specs.Stepped.{storesOf}
 use Rattle.reader.specs.declared.Reading.{Reading}
 use Rattle.replay.specs.Play.{starting}
 use Rattle.replay.specs.Run.{playingOf}
-use Rattle.replay.proofs.Runs.{Going, going, energies-inside, again, full, unread}
+use Rattle.replay.proofs.Runs.{handed-as, Going, going, energies-inside, again, full, unread}
 use borrow.Author.Needs.{needs}
 use Rattle.replay.proofs.run.run_file.Statement.{statement}
 use Rattle.replay.proofs.run.run_file.Tie as tie
@@ -92,25 +97,73 @@ slice-write-answers c =
     let turn = c .before .before .before .before .before .before .before .before .before .before .before .before .before .before .before .before .before .before .before .before .before in
     omega (arith, turn .loop-test .taken, turn .before .loop .inv .sized .answers, turn .before .before .before .before .before .before .before .before .before .good .1 .1 .1 .1 .1 .0)
 
+-- a record is put at a place of its table
+point-place : (c : tie.After-tables Inv-loop μ-loop) → c .tables .given .0 .0 < 256
+point-place c = rw (c .tables .given .1) at (c .before .before .before .before .before .before .before .before .before .before .before .before .before .before .hand-part .ensures .0)
+
+version-place : (c : tie.After-tables2 Inv-loop μ-loop) → c .tables2 .given .0 .0 < 512
+version-place c = rw (c .tables2 .given .1) at (c .before .before .before .before .before .before .before .before .before .before .before .before .before .before .hand-part .ensures .0)
+
+enum-told : tie.Need-enum-told Inv-loop μ-loop
+enum-told c = search needs
+
+enum-told-2 : tie.Need-enum-told-2 Inv-loop μ-loop
+enum-told-2 c = search needs
+
+fresh-desk-requires-2 : tie.Need-fresh-desk-requires-2 Inv-loop μ-loop
+fresh-desk-requires-2 c κs = search needs
+
+enum-known-tables : tie.Need-enum-known-tables Inv-loop μ-loop
+enum-known-tables c = search needs
+
+mul-record : tie.Need-mul-record Inv-loop μ-loop
+mul-record c = let h = point-place (c .before) in omega (arith, h)
+
+element-set-from-record : tie.Need-element-set-from-record Inv-loop μ-loop
+element-set-from-record c = point-place (c .before)
+
+enum-known-tables-2 : tie.Need-enum-known-tables-2 Inv-loop μ-loop
+enum-known-tables-2 c = search needs
+
+mul-record-2 : tie.Need-mul-record-2 Inv-loop μ-loop
+mul-record-2 c = let h = version-place (c .before) in omega (arith, h)
+
+element-set-from-record-2 : tie.Need-element-set-from-record-2 Inv-loop μ-loop
+element-set-from-record-2 c = version-place (c .before)
+
+enum-known-tables-3 : tie.Need-enum-known-tables-3 Inv-loop μ-loop
+enum-known-tables-3 c = search needs
+
+settled-versions-requires : tie.Need-settled-versions-requires Inv-loop μ-loop
+settled-versions-requires c κs =
+    let d = c .before .before .before .before .before .before .before .before .before .before .before .before .before .before .before .before .before .before .before .before .before .before .before .before .before .before .before .before .before .before .before .loop .desk in
+    let v = sound d (rw (c .before .before .tables3 .given .1) at (c .before .before .before .before .before .before .before .before .before .before .before .before .before .before .before .before .hand-part .ensures .0)) in
+    (v .count, points-in d v)
+
 add-answered : tie.Need-add-answered Inv-loop μ-loop
 add-answered c =
-    let turn = c .before .before .before .before .before .before .before .before .before .before .before .before .before .before .before .before .before .before .before .before .before .before in
+    let turn = c .before .before .before .before .before .before .before .before .before .before .before .before .before .before .before .before .before .before .before .before .before .before .before .before .before .before .before in
     omega (arith, turn .loop-test .taken, turn .before .loop .inv .sized .answers, turn .before .before .before .before .before .before .before .before .before .good .1 .1 .1 .1 .1 .0)
 
 loop-less : tie.Need-loop-less Inv-loop μ-loop
 loop-less c =
-    let turn = c .before .before .before .before .before .before .before .before .before .before .before .before .before .before .before .before .before .before .before .before .before .before in
+    let turn = c .before .before .before .before .before .before .before .before .before .before .before .before .before .before .before .before .before .before .before .before .before .before .before .before .before .before .before in
     omega (arith, turn .loop-test .taken, turn .before .loop .inv .sized .answers, turn .before .before .before .before .before .before .before .before .before .good .1 .1 .1 .1 .1 .0)
 
 loop-again : tie.Need-loop-again Inv-loop μ-loop
 loop-again c =
-    let handed = c .before .before .before .before .before .before .before .before in
+    let put = c .before .before .before .before .before in
+    let handed = put .before .before .before .before .before .before .before .before in
     let told = handed .before .before .before .before .before .before .before in
     let read = told .before .before .before .before .before in
     let turn = read .before .before in
     let g = turn .before .loop .inv in
-    again g (omega (arith, turn .loop-test .taken, g .sized .answers)) (step-read (read .read-call .ensures .0) ∙ told .step .given .1) (fields-read (read .read-call .ensures .0)) (read .read-call .ensures .1) (handed .hand-part .ensures) (c .before .number-of .ensures)
-    (record { values = c .before .before .before .before .before .before .before .values .given; book = c .before .before .before .before .before .book .given; log = c .before .before .before .log .given; series = told .before .before .before .before .series .given; answers = simp length-set })
+    let d = turn .before .loop .desk in
+    let e = handed .hand-part .result .effect in
+    let tables : (c .match2 .desk .points ≡ pointsBy d (e .tables)) × (c .match2 .desk .versions ≡ versionsBy d (e .tables)) =
+    ⊎-elim (λ w. rw (w .2, w .1 .given .1) (refl, refl)) (⊎-elim (λ w. rw (w .3, w .2 .ensures, w .1 .given .1) (refl, refl)) (⊎-elim (λ w. rw (w .3, w .1 .given .1) (refl, refl)) (⊎-elim (λ w. rw (w .3, w .1 .given .1) (refl, refl)) (λ w. rw (w .5, w .4 .ensures, w .1 .given .1) (refl, refl))))) (c .match2 .came) in
+    again g (omega (arith, turn .loop-test .taken, g .sized .answers)) (step-read (read .read-call .ensures .0) ∙ told .step .given .1) (fields-read (read .read-call .ensures .0)) (read .read-call .ensures .1) (handed-as (applied d (c .match2 .desk) e tables) (handed .hand-part .ensures .1)) (put .before .number-of .ensures)
+    (record { values = put .before .before .before .before .before .before .before .values .given; book = put .before .before .before .before .before .book .given; log = put .before .before .before .log .given; series = told .before .before .before .before .series .given; answers = simp length-set })
 
 ended-at-requires : tie.Need-ended-at-requires Inv-loop μ-loop
 ended-at-requires c κs = search needs
@@ -159,6 +212,17 @@ run-file-spec =
     number-of-requires
     mul-answers
     slice-write-answers
+    enum-told
+    enum-told-2
+    fresh-desk-requires-2
+    enum-known-tables
+    mul-record
+    element-set-from-record
+    enum-known-tables-2
+    mul-record-2
+    element-set-from-record-2
+    enum-known-tables-3
+    settled-versions-requires
     add-answered
     loop-less
     loop-again

@@ -1,53 +1,23 @@
--- `assign` meets its contract. Assumes nothing.
-use mathlib.Core.Path.{sym, _∙_}
-use borrow.Author.Tests.{not-false}
-use lib.ListN.{length}
-use Rattle.quantity.specs.Limits.{deltaOk, groupOk}
-use Rattle.quantity.proofs.Tests.{and-left, and-right}
-use Rattle.state.proofs.Bounds.{sound}
-use Rattle.verdict.proofs.Deciding.{allowed, book-same, book-refused, book-granted}
+-- `assign` meets its contract, by what is decided. Assumes nothing.
 use borrow.Author.Needs.{needs}
 use Rattle.settlement.proofs.assign.assign.Statement.{statement}
 use Rattle.settlement.proofs.assign.assign.Tie as tie
 
-assign-verdict-requires : tie.Need-assign-verdict-requires
-assign-verdict-requires c κs = search needs
+valid-requires : tie.Need-valid-requires
+valid-requires c κs = search needs
 
-enum-known-v : tie.Need-enum-known-v
-enum-known-v c = search needs
+decide-assign-requires : tie.Need-decide-assign-requires
+decide-assign-requires c κs = search needs
 
-refuse-requires : tie.Need-refuse-requires
-refuse-requires c κs = tt
-
-enum-told : tie.Need-enum-told
-enum-told c = search needs
-
-assigned-requires : tie.Need-assigned-requires
-assigned-requires c κs =
-    let a = c .before .before .before .before .before .args in
-    let h = allowed _ _ (sym (c .before .before .before .assign-verdict .ensures 0 0) ∙ c .before .enum-told .given .1) in
-    let fields = not-false _ (h .1 .1 .1 .0) in
-    (sound _ (not-false _ (h .0)), ((and-left (deltaOk (a .area)) _ fields, and-left (groupOk (a .group)) _ (and-right (deltaOk (a .area)) _ fields)), book-same _ _ (h .1 .1 .0)))
-
-returns : tie.Need-returns
-returns c values log = book-refused _ _ _ (c .before .before .before .before .assign-verdict .ensures (length values) (length log)) (c .before .before .v .given .1) (c .refuse .ensures)
+outcome-requires : tie.Need-outcome-requires
+outcome-requires c κs = search needs
 
 same-length : tie.Need-same-length
 same-length c = search needs
 
-returns-2 : tie.Need-returns-2
-returns-2 c values log =
-    book-granted _ _ _ (c .before .before .before .before .before .before .assign-verdict .ensures (length values) (length log)) (c .before .before .before .before .enum-told .given .1) (c .before .before .assigned .ensures values log)
+returns : tie.Need-returns
+returns c values log = let o = c .outcome .ensures in rw (o .0, o .1) (c .before .before .before .decide-assign .ensures .1 values log)
 
 pub assign-spec : {M : Type 1} → statement M
 assign-spec =
-    tie.close
-    (tie.spec
-    assign-verdict-requires
-    enum-known-v
-    refuse-requires
-    enum-told
-    assigned-requires
-    returns
-    same-length
-    returns-2)
+    tie.close (tie.spec valid-requires decide-assign-requires outcome-requires same-length returns)

@@ -7,9 +7,6 @@ use Rattle.verdict.proofs.Deciding.{checked, begun, book-other}
 use Rattle.settlement.proofs.assign.assign_verdict.Statement.{statement}
 use Rattle.settlement.proofs.assign.assign_verdict.Tie as tie
 
-valid-requires : tie.Need-valid-requires
-valid-requires c κs = tt
-
 at-work-requires : tie.Need-at-work-requires
 at-work-requires c κs = tt
 
@@ -44,7 +41,7 @@ returns c values log =
     (checked _ (c .before .before .before .or-if3 .ensures)
     (checked _ (c2 .or-if2 .ensures)
     (checked _ (c1 .or-if .ensures)
-    (begun _ (o .at-work .ensures) (o .before .valid .ensures))
+    (begun _ (o .at-work .ensures) (o .before .before .pre))
     (book-other _ _))
     (rw (c2 .before .before .before .delta-ok .ensures, c2 .before .before .group-ok .ensures, c2 .before .day-ok .ensures)))
     refl)
@@ -54,7 +51,6 @@ pub assign-verdict-spec : {M : Type 1} → statement M
 assign-verdict-spec =
     tie.close
     (tie.spec
-    valid-requires
     at-work-requires
     or-if-requires
     delta-ok-requires

@@ -29,31 +29,18 @@ move-delta-requires c κs =
       (area, omega (arith, old, new), omega (arith, old, new)),
     )
 
-with-group-requires : tie.Need-with-group-requires
-with-group-requires c κs = search needs
-
-on-day-requires : tie.Need-on-day-requires
-on-day-requires c κs = search needs
+put-group-requires : tie.Need-put-group-requires
+put-group-requires c κs = let s = c .before .before .before .before .before .before .before in omega (arith, leb-true (s .args .area) 16 (s .pre .1 .0 .0))
 
 same-length : tie.Need-same-length
 same-length c = search needs
 
 returns : tie.Need-returns
-returns c values log =
-    record {
-      answered = refl;
-      held = rw (c .on-day .ensures, c .before .with-group .ensures);
-      booked = c .before .before .before .before .move-delta .ensures;
-    }
+returns c =
+    let e = c .put-group .ensures in
+    (e .0, λ values log. record { answered = refl; held = e .1; booked = c .before .before .before .move-delta .ensures })
 
 pub assigned-spec : {M : Type 1} → statement M
 assigned-spec =
     tie.close
-    (tie.spec
-    mul-old
-    array-read-old
-    move-delta-requires
-    with-group-requires
-    on-day-requires
-    same-length
-    returns)
+    (tie.spec mul-old array-read-old move-delta-requires put-group-requires same-length returns)

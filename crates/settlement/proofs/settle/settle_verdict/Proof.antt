@@ -10,9 +10,6 @@ use Rattle.settlement.proofs.settle.settle_verdict.Tie as tie
 deadline-of-requires : tie.Need-deadline-of-requires
 deadline-of-requires c κs = tt
 
-valid-requires : tie.Need-valid-requires
-valid-requires c κs = tt
-
 at-work-requires : tie.Need-at-work-requires
 at-work-requires c κs = tt
 
@@ -51,10 +48,10 @@ returns c n =
     (checked _ (c3 .or-if3 .ensures)
     (checked _ (c3 .before .before .before .or-if2 .ensures)
     (checked _ (c1 .or-if .ensures)
-    (begun _ (o .at-work .ensures) (o .before .valid .ensures))
+    (begun _ (o .at-work .ensures) (o .before .before .before .before .pre))
     (rw (c1 .before .before .run-ok .ensures, c1 .before .day-ok .ensures)))
     refl)
-    (rw (o .before .before .deadline-of .ensures)))
+    (rw (o .before .deadline-of .ensures)))
     (c .before .before .before .flag-of .ensures))
     refl
 
@@ -63,7 +60,6 @@ settle-verdict-spec =
     tie.close
     (tie.spec
     deadline-of-requires
-    valid-requires
     at-work-requires
     run-ok-requires
     day-ok-requires

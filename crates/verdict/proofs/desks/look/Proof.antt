@@ -19,22 +19,27 @@ survey-requires c κs = search needs
 scan-requires : tie.Need-scan-requires
 scan-requires c κs = search needs
 
+state-at-requires : tie.Need-state-at-requires
+state-at-requires c κs = search needs
+
 frame-ok-requires : tie.Need-frame-ok-requires
 frame-ok-requires c κs = search needs
 
 returns : tie.Need-returns
 unfolding validDesk frameOk
 returns c =
-    let r = c .before .before .before .before .before .rows-in .ensures in
-    let s = rw r at (c .before .before .before .before .survey .ensures) in
-    let n = c .before .before .before .scan .ensures in
+    let r = c .before .before .before .before .before .before .rows-in .ensures in
+    let s = rw r at (c .before .before .before .before .before .survey .ensures) in
+    let n = c .before .before .before .before .scan .ensures in
     record {
-      valid = rw (c .before .before .frame-ok .ensures, n .fit, s .fit);
+      valid = rw (c .before .before .frame-ok .ensures, n .fit, s .0 .fit);
+      here = c .before .before .before .state-at .ensures;
       taken = n .taken;
-      table = table (c .before .before .before .before .before .before .before .before .before .before .before);
-      survey = s;
+      table = table (c .before .before .before .before .before .before .before .before .before .before .before .before);
+      survey = s .0;
+      rows = s .1;
     }
 
 pub look-spec : {M : Type 1} → statement M
 look-spec =
-    tie.close (tie.spec rows-in-requires survey-requires scan-requires frame-ok-requires returns)
+    tie.close (tie.spec rows-in-requires survey-requires scan-requires state-at-requires frame-ok-requires returns)
