@@ -71,5 +71,6 @@ FitsIn d (Point i r) = i < points
 FitsIn d (Version i v) = i < versions
 FitsIn d (Settled run) = validDesk d ≡ true
 
+-- the same of an effect
 abbrev pub Fits : Desk → Effect → Type 0
 Fits d e = FitsIn d (e .tables)

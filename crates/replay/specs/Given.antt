@@ -25,16 +25,19 @@ asked (Notice p x y d) gs es = notices (p .0) (x .0) y (d .0)
 asked (Assign a g d) gs es = assigns a g (d .0)
 asked (Settle r d) gs es = settles r (d .0)
 
--- what one look at the desk is asked for a call
+-- what one look at the desk is asked: a point and a version, and a series
 abbrev pub asking : PointNo → Version → (kind area partner : ℕ) → Asks
 asking p x k a b = record { point = p; version = x; kind = k; area = a; partner = b }
 
+-- no point
 abbrev pub noPoint : PointNo
 noPoint = record { 0 = 0 }
 
+-- no version
 abbrev pub noVersion : Version
 noVersion = record { 0 = 0 }
 
+-- what it is asked for each call of the file: the point and version that the call names, an activation also the series that may stand only once
 unfoldable pub asksOf : FileCall → Asks
 asksOf (Open q f c k) = asking noPoint noVersion 0 0 0
 asksOf (Activate p k a b d) = asking p noVersion k a b
