@@ -50,14 +50,14 @@ module _ (o : Opening) (low : 1 ≤ o .quarters) where
 pub sound : (d : Desk) → validDesk d ≡ true → Sound d
 unfolding validDesk frameOk openingOk
 sound d v =
-    let o = d .opening in
-    let f = and-left (frameOk d) _ v in
-    let t = and-right (frameOk d) _ v in
+    let o = d .frame .opening in
+    let f = and-left (frameOk (d .frame)) _ v in
+    let t = and-right (frameOk (d .frame)) _ v in
     let f0 = and-left (openingOk o) _ f in
     let f1 = and-right (openingOk o) _ f in
-    let f2 = and-right (dayOk (d .day .0)) _ f1 in
-    let f3 = and-right (all groupOk (d .groups)) _ f2 in
-    let f4 = and-right (leb (d .count) 512) _ f3 in
+    let f2 = and-right (dayOk (d .frame .day .0)) _ f1 in
+    let f3 = and-right (all groupOk (d .frame .groups)) _ f2 in
+    let f4 = and-right (leb (d .frame .count) 512) _ f3 in
     let q = and-left (quartersOk (o .quarters)) _ f0 in
     let o1 = and-right (quartersOk (o .quarters)) _ f0 in
     let o2 = and-right (deadlinesOk (o .first .0) (o .clearing .0) (o .correction .0)) _ o1 in
@@ -68,11 +68,11 @@ sound d v =
       deadlines = and-left (deadlinesOk (o .first .0) (o .clearing .0) (o .correction .0)) _ o1;
       book = eqb-true (o .book) (162 * o .quarters) (and-left (eqb (o .book) (162 * o .quarters)) _ o2);
       log = eqb-true (o .log % 4) 0 (and-right (eqb (o .book) (162 * o .quarters)) _ o2);
-      day = leb-true (d .day .0) 400 (and-left (dayOk (d .day .0)) _ f1);
-      groups = and-left (all groupOk (d .groups)) _ f2;
-      count = leb-true (d .count) 512 (and-left (leb (d .count) 512) _ f3);
-      rows = rows-fit o low (rowsUsed d) (leb-true (rowsUsed d) (rowsIn o) (and-left (leb (rowsUsed d) (rowsIn o)) _ f4));
-      used = omega (arith, leb-true (d .used) (logRowsIn o) (and-right (leb (rowsUsed d) (rowsIn o)) _ f4));
+      day = leb-true (d .frame .day .0) 400 (and-left (dayOk (d .frame .day .0)) _ f1);
+      groups = and-left (all groupOk (d .frame .groups)) _ f2;
+      count = leb-true (d .frame .count) 512 (and-left (leb (d .frame .count) 512) _ f3);
+      rows = rows-fit o low (rowsUsed (d .frame)) (leb-true (rowsUsed (d .frame)) (rowsIn o) (and-left (leb (rowsUsed (d .frame)) (rowsIn o)) _ f4));
+      used = omega (arith, leb-true (d .frame .used) (logRowsIn o) (and-right (leb (rowsUsed (d .frame)) (rowsIn o)) _ f4));
       points = and-left (all pointRecordOk (d .points)) _ t;
       versions = and-right (all pointRecordOk (d .points)) _ t;
     }
@@ -81,21 +81,21 @@ sound d v =
 pub whole : (d : Desk) → Sound d → validDesk d ≡ true
 unfolding validDesk frameOk openingOk
 whole d s =
-    let o = d .opening in
+    let o = d .frame .opening in
     let q = and-both _ _ (le-leb 1 (o .quarters) (s .quarters)) (le-leb (o .quarters) 2980 (s .most)) in
     let f0 = and-both _ _ q (and-both _ _ (s .deadlines) (and-both _ _ (eq-eqb _ _ (s .book)) (eq-eqb _ _ (s .log)))) in
-    let n = le-leb (rowsUsed d) (rowsIn o) (fit-rows o (s .quarters) (rowsUsed d) (s .rows)) in
-    let f3 = and-both _ _ (le-leb (d .count) 512 (s .count)) (and-both _ _ n (le-leb (d .used) (logRowsIn o) (omega (arith, s .used)))) in
-    let f = and-both _ _ f0 (and-both _ _ (le-leb (d .day .0) 400 (s .day)) (and-both _ _ (s .groups) f3)) in
+    let n = le-leb (rowsUsed (d .frame)) (rowsIn o) (fit-rows o (s .quarters) (rowsUsed (d .frame)) (s .rows)) in
+    let f3 = and-both _ _ (le-leb (d .frame .count) 512 (s .count)) (and-both _ _ n (le-leb (d .frame .used) (logRowsIn o) (omega (arith, s .used)))) in
+    let f = and-both _ _ f0 (and-both _ _ (le-leb (d .frame .day .0) 400 (s .day)) (and-both _ _ (s .groups) f3)) in
     and-both _ _ f (and-both _ _ (s .points) (s .versions))
 
 module _ (d : Desk) (s : Sound d) where
   -- a delta's group is one of 1 to 64
-  pub group-low : (i : ℕ) → i < length (d .groups) → 1 ≤ getD (d .groups) i 0
-  group-low i h = within-low 1 64 _ (all-in groupOk (d .groups) i 0 (s .groups) h)
+  pub group-low : (i : ℕ) → i < length (d .frame .groups) → 1 ≤ getD (d .frame .groups) i 0
+  group-low i h = within-low 1 64 _ (all-in groupOk (d .frame .groups) i 0 (s .groups) h)
 
-  pub group-high : (i : ℕ) → i < length (d .groups) → getD (d .groups) i 0 ≤ 64
-  group-high i h = within-high 1 64 _ (all-in groupOk (d .groups) i 0 (s .groups) h)
+  pub group-high : (i : ℕ) → i < length (d .frame .groups) → getD (d .frame .groups) i 0 ≤ 64
+  group-high i h = within-high 1 64 _ (all-in groupOk (d .frame .groups) i 0 (s .groups) h)
 
   -- the state of any point is within the limits
   pub state-in : (p : ℕ) → stateOk (pointAt (d .points) p) ≡ true
@@ -103,16 +103,16 @@ module _ (d : Desk) (s : Sound d) where
   state-in (suc i) = all-at pointRecordOk (d .points) i freePoint refl (s .points)
 
   -- a version held is within the limits
-  pub version-in : (i : ℕ) → length (d .versions) ≡ 512 → i < d .count → versionRecordOk (rowsIn (d .opening)) (getD (d .versions) i emptyVersion) ≡ true
+  pub version-in : (i : ℕ) → length (d .versions) ≡ 512 → i < d .frame .count → versionRecordOk (rowsIn (d .frame .opening)) (getD (d .versions) i emptyVersion) ≡ true
   version-in i l h =
       let c = s .count in
-      rw (getD-take (d .count) (d .versions) i emptyVersion h) at
-      (all-in (versionRecordOk (rowsIn (d .opening))) (versionsIn d) i emptyVersion (s .versions) (rw (length-take-le (d .count) (d .versions) (omega arith)) h))
+      rw (getD-take (d .frame .count) (d .versions) i emptyVersion h) at
+      (all-in (versionRecordOk (rowsIn (d .frame .opening))) (versionsIn d) i emptyVersion (s .versions) (rw (length-take-le (d .frame .count) (d .versions) (omega arith)) h))
 
   -- and its row lies within values
-  pub row-in : (i : ℕ) → length (d .versions) ≡ 512 → i < d .count → (getD (d .versions) i emptyVersion .row .0 + 1) * d .opening .quarters ≤ d .opening .values
+  pub row-in : (i : ℕ) → length (d .versions) ≡ 512 → i < d .frame .count → (getD (d .versions) i emptyVersion .row .0 + 1) * d .frame .opening .quarters ≤ d .frame .opening .values
   row-in i l h =
       let v = getD (d .versions) i emptyVersion in
-      let n = rowsIn (d .opening) in
+      let n = rowsIn (d .frame .opening) in
       let r = ltb-true (v .row .0) n (and-right (versionOk (v .version .0)) _ (and-right (pointOk (v .point .0)) _ (version-in i l h))) in
-      rows-fit (d .opening) (s .quarters) (v .row .0 + 1) (omega arith)
+      rows-fit (d .frame .opening) (s .quarters) (v .row .0 + 1) (omega arith)

@@ -9,15 +9,15 @@ use native.Mathlib.Omega.{arith}
 use borrow.Author.Tests.{eqb-true, eq-eqb, ne-eqb}
 use lib.Dec.{eqb}
 use lib.ListN.{length, take, set}
-use lib.Seq.{length-take-le, getD-take, take-set-lt, take-suc-set}
+use lib.Seq.{length-take-le, take-set-lt, take-suc-set}
 use Rattle.quantity.proofs.Tests.{by-test, and-left, and-right, and-both}
 use Rattle.state.proofs.Lists.{take-mapFirst}
 use Rattle.state.proofs.Picks.{best-set, best-comes, best-map, held-right, own-highest}
 use Rattle.state.specs.Change.{submitted, confirm, noticed, settle, settledBy, submittedDesk, noticedDesk, settledDesk}
 use Rattle.state.specs.Desk.{versionsIn}
-use Rattle.state.specs.Selection.{raiseEarlier, versionOf, isCounted, own, IsHighest, Highest}
+use Rattle.state.specs.Selection.{rowAt, raiseEarlier, versionOf, isCounted, own, IsHighest, Highest}
 use Rattle.state.specs.Status.{counts, isCheck, confirmedStatus, settledStatus}
-use Rattle.state.specs.Version.{emptyVersion, restatus, recordAt, isAt, held, HeldIn}
+use Rattle.state.specs.Version.{restatus, recordAt, isAt, isVersion, held, HeldIn}
 use Rattle.state.specs.declared.Desk.{Desk}
 use Rattle.state.specs.declared.Held.{Held}
 use Rattle.state.specs.declared.Held.the-variants.{Absent, Has}
@@ -36,29 +36,29 @@ notice-negative c p x y d vs ne = go (held p x vs)
   where
     go : (h : Held) → confirm c y d h vs ≡ vs
     go Absent = refl
-    go (Has i s) = rw (ne-eqb y 1 ne)
+    go (Has i v) = rw (ne-eqb y 1 ne)
 
 -- "Positive turns status 1 into 2 if day ≤ C, else 4.": exactly the record found is restated
-pub notice-positive : (c p x d i : ℕ) (vs : List VersionRecord) → held p x vs ≡ Has i Check → noticed c p x 1 d vs ≡ set vs i (restatus (confirmedStatus c d) (recordAt vs i))
-notice-positive c p x d i vs e = rw e
+pub notice-positive : (c p x d i : ℕ) (v : VersionRecord) (vs : List VersionRecord) → held p x vs ≡ Has i v → v .status ≡ Check
+    → noticed c p x 1 d vs ≡ set vs i (restatus (confirmedStatus c d) v)
+notice-positive c p x d i v vs e s = rw (e, s)
 
 -- and the point's own selection in a run takes it where its new status counts: no record of its number stands before it
-pub notice-own : (run c p x d i : ℕ) (vs : List VersionRecord) → held p x vs ≡ Has i Check
-    → own run p (noticed c p x 1 d vs) ≡ cond (counts run (confirmedStatus c d)) (raiseEarlier (own run p vs) i (record { 0 = x })) (own run p vs)
-notice-own run c p x d i vs e =
-    let h : HeldIn p x vs (length vs) (Has i Check) = subst (HeldIn p x vs (length vs)) e (held-right p x vs) in
+pub notice-own : (run c p x d i : ℕ) (v : VersionRecord) (vs : List VersionRecord) → held p x vs ≡ Has i v → v .status ≡ Check
+    → own run p (noticed c p x 1 d vs) ≡ cond (counts run (confirmedStatus c d)) (raiseEarlier (own run p vs) (rowAt i (restatus (confirmedStatus c d) v))) (own run p vs)
+notice-own run c p x d i v vs e check =
+    let h : HeldIn p x vs (length vs) (Has i v) = subst (HeldIn p x vs (length vs)) e (held-right p x vs) in
     let f = isCounted run p in
-    let v = recordAt vs i in
     let s = confirmedStatus c d in
-    let here = and-left (isAt p v) _ (h .found) in
-    let off : f v ≡ false = rw (h .status, and-false (isAt p v)) in
-    let number = eqb-true (v .version .0) x (and-right (isAt p v) _ (h .found)) in
-    rw (notice-positive c p x d i vs e)
-    (by-test (λ (r : Selection). own run p (set vs i (restatus s v)) ≡ r) (counts run s) (raiseEarlier (own run p vs) i (record { 0 = x })) (own run p vs)
+    let found : isVersion p x v ≡ true = rw (h .here) at (h .found) in
+    let here = and-left (isAt p v) _ found in
+    let off : f (recordAt vs i) ≡ false = rw (h .here, check, and-false (isAt p v)) in
+    let number = eqb-true (v .version .0) x (and-right (isAt p v) _ found) in
+    rw (notice-positive c p x d i v vs e check)
+    (by-test (λ (r : Selection). own run p (set vs i (restatus s v)) ≡ r) (counts run s) (raiseEarlier (own run p vs) (rowAt i (restatus s v))) (own run p vs)
     (λ on. best-comes f vs i (restatus s v) (h .within) off (rw (here, on))
-    (λ j l t n. false≢true (sym (h .first j l) ∙ and-both (isAt p (recordAt vs j)) _ (and-left (isAt p (recordAt vs j)) _ t) (eq-eqb (recordAt vs j .version .0) x (n ∙ number))))
-    ∙ ap (λ (m : ℕ). raiseEarlier (own run p vs) i (record { 0 = m })) number)
-    (λ on. best-set f vs i (restatus s v) (rw (on, and-false (isAt p v)) (sym off)) refl))
+    (λ j l t n. false≢true (sym (h .first j l) ∙ and-both (isAt p (recordAt vs j)) _ (and-left (isAt p (recordAt vs j)) _ t) (eq-eqb (recordAt vs j .version .0) x (n ∙ number)))))
+    (λ on. best-set f vs i (restatus s v) (rw (on, and-false (isAt p v)) (sym off)) (λ k. ap (rowAt k) (sym (h .here)))))
 
 -- a notice at one point leaves the selection of every other
 pub notice-other : (run q c p x y d : ℕ) (vs : List VersionRecord) → (p ≡ q → ⊥) → own run q (noticed c p x y d vs) ≡ own run q vs
@@ -66,11 +66,12 @@ notice-other run q c p x y d vs ne = go (held p x vs) (held-right p x vs)
   where
     go : (h : Held) → HeldIn p x vs (length vs) h → own run q (confirm c y d h vs) ≡ own run q vs
     go Absent k = refl
-    go (Has i s) k =
-        let e = eqb-true (recordAt vs i .point .0) p (and-left (isAt p (recordAt vs i)) _ (k .found)) in
-        let off = ne-eqb (recordAt vs i .point .0) q (λ j. ne (sym e ∙ j)) in
-        by-test (λ (l : List VersionRecord). own run q l ≡ own run q vs) (eqb y 1 && isCheck s) (set vs i (restatus (confirmedStatus c d) (recordAt vs i))) vs
-        (λ _. best-set (isCounted run q) vs i (restatus (confirmedStatus c d) (recordAt vs i)) (rw off) refl)
+    go (Has i v) k =
+        let found : isVersion p x v ≡ true = rw (k .here) at (k .found) in
+        let e = eqb-true (v .point .0) p (and-left (isAt p v) _ found) in
+        let off = ne-eqb (v .point .0) q (λ j. ne (sym e ∙ j)) in
+        by-test (λ (l : List VersionRecord). own run q l ≡ own run q vs) (eqb y 1 && isCheck (v .status)) (set vs i (restatus (confirmedStatus c d) v)) vs
+        (λ _. best-set (isCounted run q) vs i (restatus (confirmedStatus c d) v) (rw (k .here, off)) (λ j. ap (rowAt j) (sym (k .here))))
         (λ _. refl)
 
 -- ---- a settle
@@ -90,14 +91,14 @@ module _ (r : ℕ) (vs : List VersionRecord) where
       by-test (λ (w : VersionRecord). isCounted run p w ≡ isCounted run p v) (counts r (v .status) && eqb (v .version .0) (versionOf (own r (v .point .0) vs))) (restatus (settledStatus r) v) v
       (λ e. rw (settled-counts run r (v .status) (and-left (counts r (v .status)) _ e))) (λ _. refl)
 
-  settle-version : (v : VersionRecord) → settle r vs v .version ≡ v .version
+  settle-row : (i : ℕ) (v : VersionRecord) → rowAt i (settle r vs v) ≡ rowAt i v
   unfolding settle
-  settle-version v =
-      by-test (λ (w : VersionRecord). w .version ≡ v .version) (counts r (v .status) && eqb (v .version .0) (versionOf (own r (v .point .0) vs))) (restatus (settledStatus r) v) v (λ _. refl) (λ _. refl)
+  settle-row i v =
+      by-test (λ (w : VersionRecord). rowAt i w ≡ rowAt i v) (counts r (v .status) && eqb (v .version .0) (versionOf (own r (v .point .0) vs))) (restatus (settledStatus r) v) v (λ _. refl) (λ _. refl)
 
   -- 2 restated as 3, or 4 as 5, leaves all selections, of both runs
   pub settle-own : (run p : ℕ) → own run p (settledBy r vs) ≡ own run p vs
-  settle-own run p = best-map (isCounted run p) vs (settle r vs) (settle-counted run p) settle-version
+  settle-own run p = best-map (isCounted run p) vs (settle r vs) (settle-counted run p) settle-row
 
   -- each selected version is restated
   pub settle-selected : (p : ℕ) (s : VersionRow) → own r p vs ≡ Selected s → settle r vs (recordAt vs (s .at)) ≡ restatus (settledStatus r) (recordAt vs (s .at))
@@ -106,7 +107,7 @@ module _ (r : ℕ) (vs : List VersionRecord) where
       let v = recordAt vs (s .at) in
       let h : IsHighest (isCounted r p) vs (length vs) s = subst (Highest (isCounted r p) vs (length vs)) e (own-highest r p vs) in
       let q = eqb-true (v .point .0) p (and-left (isAt p v) _ (h .passes)) in
-      let n = eq-eqb (v .version .0) (s .version .0) (ap (λ (x : _). x .0) (h .version)) in
+      let n = eq-eqb (v .version .0) (s .version .0) (ap (λ (z : VersionRow). z .version .0) (h .here)) in
       rw (q, e, and-right (isAt p v) _ (h .passes), n)
 
   -- and no other: not one that does not count, nor one below the highest that counts
@@ -121,29 +122,25 @@ module _ (r : ℕ) (vs : List VersionRecord) where
 -- ---- the desk's table, and the versions held
 
 module _ (d : Desk) where
-  pub submitted-versions : (v : VersionRecord) → d .count < length (d .versions) → versionsIn (submittedDesk d v) ≡ submitted v (versionsIn d)
-  submitted-versions v h = rw add-one (take-suc-set (d .versions) (d .count) v h)
+  pub submitted-versions : (v : VersionRecord) → d .frame .count < length (d .versions) → versionsIn (submittedDesk d v) ≡ submitted v (versionsIn d)
+  submitted-versions v h = rw add-one (take-suc-set (d .versions) (d .frame .count) v h)
 
-  pub settled-versions : (run : ℕ) → d .count ≤ length (d .versions) → versionsIn (settledDesk d run) ≡ settledBy run (versionsIn d)
-  settled-versions run h = take-mapFirst (settle run (versionsIn d)) (d .versions) (d .count) h
+  pub settled-versions : (run : ℕ) → d .frame .count ≤ length (d .versions) → versionsIn (settledDesk d run) ≡ settledBy run (versionsIn d)
+  settled-versions run h = take-mapFirst (settle run (versionsIn d)) (d .versions) (d .frame .count) h
 
-  pub noticed-versions : (p x y day : ℕ) → d .count ≤ length (d .versions)
-      → versionsIn (noticedDesk d (held p x (versionsIn d)) y day) ≡ noticed (d .opening .clearing .0) p x y day (versionsIn d)
+  pub noticed-versions : (p x y day : ℕ) → d .frame .count ≤ length (d .versions)
+      → versionsIn (noticedDesk d (held p x (versionsIn d)) y day) ≡ noticed (d .frame .opening .clearing .0) p x y day (versionsIn d)
   noticed-versions p x y day h = go (held p x (versionsIn d)) (held-right p x (versionsIn d))
     where
       c : ℕ
-      c = d .opening .clearing .0
+      c = d .frame .opening .clearing .0
 
-      go : (k : Held) → HeldIn p x (versionsIn d) (length (versionsIn d)) k → take (d .count) (confirm c y day k (d .versions)) ≡ confirm c y day k (versionsIn d)
+      go : (k : Held) → HeldIn p x (versionsIn d) (length (versionsIn d)) k → take (d .frame .count) (confirm c y day k (d .versions)) ≡ confirm c y day k (versionsIn d)
       go Absent w = refl
-      go (Has i s) w =
-          let n = length-take-le (d .count) (d .versions) h in
-          let l : i < d .count = omega (arith, w .within) in
-          let v = recordAt (d .versions) i in
-          let same : recordAt (versionsIn d) i ≡ v = getD-take (d .count) (d .versions) i emptyVersion l in
-          cond-take (eqb y 1 && isCheck s) _ _
-          (take-set-lt (d .count) (d .versions) i (restatus (confirmedStatus c day) v) l ∙ ap (λ (x : VersionRecord). set (versionsIn d) i (restatus (confirmedStatus c day) x)) (sym same))
+      go (Has i v) w =
+          let n = length-take-le (d .frame .count) (d .versions) h in
+          cond-take (eqb y 1 && isCheck (v .status)) _ _ (take-set-lt (d .frame .count) (d .versions) i (restatus (confirmedStatus c day) v) (omega (arith, w .within)))
         where
-          cond-take : (t : Bool) (a b : List VersionRecord) → take (d .count) a ≡ b → take (d .count) (cond t a (d .versions)) ≡ cond t b (versionsIn d)
+          cond-take : (t : Bool) (a b : List VersionRecord) → take (d .frame .count) a ≡ b → take (d .frame .count) (cond t a (d .versions)) ≡ cond t b (versionsIn d)
           cond-take true a b q = q
           cond-take false a b q = refl

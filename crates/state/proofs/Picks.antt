@@ -1,8 +1,8 @@
 -- Laws of the pick of a version, for any table: the selected version counts and no higher one does, the version found is the one asked for,
 -- and which changes leave them. Assumes nothing.
 use Prim.Native.Nat.{ℕ, suc, _≤_, _<_}
-use mathlib.Core.Path.{_≡_, refl, sym, _∙_, subst}
-use mathlib.Core.Bool.{Bool, true, false, _||_, and-false, or-false, or-assoc, false≢true}
+use mathlib.Core.Path.{_≡_, refl, sym, ap, _∙_, subst}
+use mathlib.Core.Bool.{Bool, true, false, cond, _||_, and-false, or-false, or-assoc, false≢true}
 use mathlib.Core.List.{List, [], _∷_, map}
 use native.Mathlib.Decide.{ℕ-discrete}
 use native.Mathlib.Omega.{arith}
@@ -14,7 +14,7 @@ use Rattle.quantity.proofs.Tests.{by-test}
 use Rattle.quantity.specs.Lists.{any}
 use Rattle.state.proofs.Lists.{walk-last, walk-map, walk-set, walk-keeps}
 use Rattle.state.specs.Change.{submitted}
-use Rattle.state.specs.Selection.{row, raise, raiseEarlier, raiseIf, best, isSelected, versionOf, isCounted, own, selected, IsHighest, Highest}
+use Rattle.state.specs.Selection.{rowAt, raise, raiseEarlier, raiseIf, best, isSelected, versionOf, isCounted, own, selected, IsHighest, Highest}
 use Rattle.state.specs.Status.{statusNumber, counts}
 use Rattle.state.specs.Walk.{walk}
 use Rattle.state.specs.Version.{emptyVersion, recordAt, isVersion, orHeld, held, HeldIn}
@@ -39,11 +39,11 @@ never : {A : Type 0} (t : Bool) → t ≡ false → t ≡ true → A
 never t e h = absurd (false≢true (sym e ∙ h))
 
 module _ (f : VersionRecord → Bool) (vs : List VersionRecord) where
-  raise-right : (s : Selection) (i : ℕ) → f (recordAt vs i) ≡ true → Highest f vs i s → Highest f vs (suc i) (raise s i (recordAt vs i .version))
+  raise-right : (s : Selection) (i : ℕ) → f (recordAt vs i) ≡ true → Highest f vs i s → Highest f vs (suc i) (raise s (rowAt i (recordAt vs i)))
   raise-right None i t h =
       record {
         within = omega arith;
-        version = refl;
+        here = refl;
         passes = t;
         most = up-to _ i (λ j k e. never (f (recordAt vs j)) (h j k) e) (λ _. omega arith);
         first = λ j k e. never (f (recordAt vs j)) (h j k) e;
@@ -53,14 +53,14 @@ module _ (f : VersionRecord → Bool) (vs : List VersionRecord) where
       by-test (Highest f vs (suc i)) (ltb (r .version .0) (n .0)) _ _
       (λ e. record {
         within = omega arith;
-        version = refl;
+        here = refl;
         passes = t;
         most = up-to _ i (λ j k p. omega (arith, h .most j k p, ltb-true (r .version .0) (n .0) e)) (λ _. omega arith);
         first = λ j k p. omega (arith, h .most j k p, ltb-true (r .version .0) (n .0) e);
       })
       (λ e. record {
         within = omega (arith, h .within);
-        version = h .version;
+        here = h .here;
         passes = h .passes;
         most = up-to _ i (h .most) (λ _. ltb-false (r .version .0) (n .0) e);
         first = h .first;
@@ -71,7 +71,7 @@ module _ (f : VersionRecord → Bool) (vs : List VersionRecord) where
   keep-right (Selected r) i t h =
       record {
         within = omega (arith, h .within);
-        version = h .version;
+        here = h .here;
         passes = h .passes;
         most = up-to _ i (h .most) (λ e. never (f (recordAt vs i)) t e);
         first = h .first;
@@ -82,7 +82,7 @@ module _ (f : VersionRecord → Bool) (vs : List VersionRecord) where
   unfolding best
   best-highest =
       walk-keeps (raiseIf f) (Highest f vs) vs emptyVersion
-      (λ s i _ h. by-test (Highest f vs (suc i)) (f (recordAt vs i)) (raise s i (recordAt vs i .version)) s (λ t. raise-right s i t h) (λ t. keep-right s i t h))
+      (λ s i _ h. by-test (Highest f vs (suc i)) (f (recordAt vs i)) (raise s (rowAt i (recordAt vs i))) s (λ t. raise-right s i t h) (λ t. keep-right s i t h))
       None (λ j k. absurd (omega arith))
 
   pub best-at : (r : VersionRow) → best f vs ≡ Selected r → IsHighest f vs (length vs) r
@@ -98,22 +98,27 @@ module _ (f : VersionRecord → Bool) (vs : List VersionRecord) where
   best-skips v e = best-last v ∙ rw e
 
   -- one that passes and is higher than all before is picked
-  pub best-newest : (v : VersionRecord) → f v ≡ true → versionOf (best f vs) < v .version .0 → best f (submitted v vs) ≡ row (length vs) (v .version)
+  pub best-newest : (v : VersionRecord) → f v ≡ true → versionOf (best f vs) < v .version .0 → best f (submitted v vs) ≡ Selected (rowAt (length vs) v)
   best-newest v e h = best-last v ∙ rw e (go (best f vs) h)
     where
-      go : (s : Selection) → versionOf s < v .version .0 → raise s (length vs) (v .version) ≡ row (length vs) (v .version)
+      go : (s : Selection) → versionOf s < v .version .0 → raise s (rowAt (length vs) v) ≡ Selected (rowAt (length vs) v)
       go None k = refl
       go (Selected r) k = rw (lt-ltb (r .version .0) (v .version .0) k)
 
-  -- a change of the records that leaves number and test leaves the pick
-  pub best-map : (g : VersionRecord → VersionRecord) → ((v : VersionRecord) → f (g v) ≡ f v) → ((v : VersionRecord) → g v .version ≡ v .version) → best f (map g vs) ≡ best f vs
+  -- a change of the records that leaves number, row of values and test leaves the pick
+  pub best-map : (g : VersionRecord → VersionRecord) → ((v : VersionRecord) → f (g v) ≡ f v) → ((i : ℕ) (v : VersionRecord) → rowAt i (g v) ≡ rowAt i v) → best f (map g vs) ≡ best f vs
   unfolding best
-  best-map g p q = walk-map (raiseIf f) g (λ s i v. rw (p v, q v)) None 0 vs
+  best-map g p q = walk-map (raiseIf f) g (λ s i v. ap (λ (r : VersionRow). cond (f (g v)) (raise s r) s) (q i v) ∙ ap (λ (t : Bool). cond t (raise s (rowAt i v)) s) (p v)) None 0 vs
 
   -- and so does a change of one record
-  pub best-set : (k : ℕ) (w : VersionRecord) → f w ≡ f (recordAt vs k) → w .version ≡ recordAt vs k .version → best f (set vs k w) ≡ best f vs
+  pub best-set : (k : ℕ) (w : VersionRecord) → f w ≡ f (recordAt vs k) → ((i : ℕ) → rowAt i w ≡ rowAt i (recordAt vs k)) → best f (set vs k w) ≡ best f vs
   unfolding best
-  best-set k w p q = walk-set (raiseIf f) vs k w emptyVersion (λ s i. rw (p, q)) None 0
+  best-set k w p q =
+      walk-set (raiseIf f) vs k w emptyVersion
+      (λ s i. ap (λ (r : VersionRow). cond (f w) (raise s r) s) (q i) ∙ ap (λ (t : Bool). cond t (raise s (rowAt i (recordAt vs k))) s) p) None 0
+
+abbrev number : VersionRow → ℕ
+number r = r .version .0
 
 -- of the first n records there is one highest, or none
 pub highest-one : (f : VersionRecord → Bool) (vs : List VersionRecord) (n : ℕ) (s t : Selection) → Highest f vs n s → Highest f vs n t → s ≡ t
@@ -124,13 +129,12 @@ highest-one f vs n (Selected r) (Selected q) h k =
     let before = not-before r q h k in
     let after = not-before q r k h in
     let e : r .at ≡ q .at = omega arith in
-    let v : r .version ≡ q .version = sym (h .version) ∙ rw e (k .version) in
-    rw (e, v)
+    ap Selected (sym (h .here) ∙ ap (λ (i : ℕ). rowAt i (recordAt vs i)) e ∙ k .here)
   where
     not-before : (r q : VersionRow) → IsHighest f vs n r → IsHighest f vs n q → r .at < q .at → ⊥
     not-before r q h k l =
-        let a : recordAt vs (r .at) .version .0 ≡ r .version .0 = rw (h .version) in
-        let b : recordAt vs (q .at) .version .0 ≡ q .version .0 = rw (k .version) in
+        let a : recordAt vs (r .at) .version .0 ≡ r .version .0 = ap number (h .here) in
+        let b : recordAt vs (q .at) .version .0 ≡ q .version .0 = ap number (k .here) in
         omega (arith, k .first (r .at) l (h .passes), h .most (q .at) (k .within) (k .passes))
 
 module _ (f : VersionRecord → Bool) (vs : List VersionRecord) (k : ℕ) (w : VersionRecord) (in-table : k < length vs) where
@@ -144,7 +148,7 @@ module _ (f : VersionRecord → Bool) (vs : List VersionRecord) (k : ℕ) (w : V
 
   -- a record that comes to pass, where none before it with its number does
   pub best-comes : f (recordAt vs k) ≡ false → f w ≡ true → ((j : ℕ) → j < k → f (recordAt vs j) ≡ true → recordAt vs j .version .0 ≡ w .version .0 → ⊥)
-      → best f (set vs k w) ≡ raiseEarlier (best f vs) k (w .version)
+      → best f (set vs k w) ≡ raiseEarlier (best f vs) (rowAt k w)
   best-comes off on first =
       highest-one f (set vs k w) (length vs) _ _ (rw (length-set vs k w) at (best-highest f (set vs k w))) (go (best f vs) (best-highest f vs))
     where
@@ -157,22 +161,22 @@ module _ (f : VersionRecord → Bool) (vs : List VersionRecord) (k : ℕ) (w : V
       here : recordAt (set vs k w) k ≡ w
       here = getD-set-same vs k w emptyVersion in-table
 
-      go : (s : Selection) → Highest f vs (length vs) s → Highest f (set vs k w) (length vs) (raiseEarlier s k (w .version))
+      go : (s : Selection) → Highest f vs (length vs) s → Highest f (set vs k w) (length vs) (raiseEarlier s (rowAt k w))
       go None h =
           record {
             within = in-table;
-            version = rw here;
+            here = ap (rowAt k) here;
             passes = rw here on;
             most = set-either (Most (w .version .0)) (λ _ _. omega arith) (λ j ne l e. never (f (recordAt vs j)) (h j l) e);
             first = set-either (Before k (w .version .0)) (λ l _. absurd (omega arith)) (λ j ne l e. never (f (recordAt vs j)) (h j (omega arith)) e);
           }
       go (Selected r) h =
-          by-test (Highest f (set vs k w) (length vs)) (leb (r .version .0) (w .version .0)) (row k (w .version)) (Selected r)
+          by-test (Highest f (set vs k w) (length vs)) (leb (r .version .0) (w .version .0)) (Selected (rowAt k w)) (Selected r)
           (λ t.
           let up = leb-true (r .version .0) (w .version .0) t in
           record {
             within = in-table;
-            version = rw here;
+            here = ap (rowAt k) here;
             passes = rw here on;
             most = set-either (Most (w .version .0)) (λ _ _. omega arith) (λ j ne l e. omega (arith, h .most j l e));
             first = set-either (Before k (w .version .0)) (λ l _. absurd (omega arith)) (λ j ne l e. omega (arith, h .most j (omega arith) e, first j l e));
@@ -183,18 +187,18 @@ module _ (f : VersionRecord → Bool) (vs : List VersionRecord) (k : ℕ) (w : V
           let kept = getD-set-other vs k (r .at) w emptyVersion ne in
           record {
             within = h .within;
-            version = rw kept (h .version);
+            here = ap (rowAt (r .at)) kept ∙ h .here;
             passes = rw kept (h .passes);
             most = set-either (Most (r .version .0)) (λ _ _. omega arith) (λ j ne. h .most j);
             first = set-either (Before (r .at) (r .version .0)) (λ _ _. omega arith) (λ j ne. h .first j);
           })
 
 raise-selected : (f : VersionRecord → Bool) (s : Selection) (i : ℕ) (v : VersionRecord) → isSelected (raiseIf f s i v) ≡ (isSelected s || f v)
-raise-selected f s i v = by-test (λ (t : Selection). isSelected t ≡ (isSelected s || f v)) (f v) (raise s i (v .version)) s (λ e. rw e (go s)) (λ e. rw (e, or-false))
+raise-selected f s i v = by-test (λ (t : Selection). isSelected t ≡ (isSelected s || f v)) (f v) (raise s (rowAt i v)) s (λ e. rw e (go s)) (λ e. rw (e, or-false))
   where
-    go : (s : Selection) → isSelected (raise s i (v .version)) ≡ (isSelected s || true)
+    go : (s : Selection) → isSelected (raise s (rowAt i v)) ≡ (isSelected s || true)
     go None = refl
-    go (Selected r) = by-test (λ (t : Selection). isSelected t ≡ true) (ltb (r .version .0) (v .version .0)) (row i (v .version)) (Selected r) (λ _. refl) (λ _. refl)
+    go (Selected r) = by-test (λ (t : Selection). isSelected t ≡ true) (ltb (r .version .0) (v .version .0)) (Selected (rowAt i v)) (Selected r) (λ _. refl) (λ _. refl)
 
 -- there is a pick exactly where some record passes
 pub best-any : (f : VersionRecord → Bool) (vs : List VersionRecord) → isSelected (best f vs) ≡ any f vs
@@ -213,10 +217,10 @@ module _ (p x : ℕ) (vs : List VersionRecord) where
     where
       go : (h : Held) (i : ℕ) → HeldIn p x vs i h → HeldIn p x vs (suc i) (orHeld p x h i (recordAt vs i))
       go Absent i k =
-          by-test (HeldIn p x vs (suc i)) (isVersion p x (recordAt vs i)) (Has i (recordAt vs i .status)) Absent
-          (λ e. record { within = omega arith; found = e; status = refl; first = k })
+          by-test (HeldIn p x vs (suc i)) (isVersion p x (recordAt vs i)) (Has i (recordAt vs i)) Absent
+          (λ e. record { within = omega arith; found = e; here = refl; first = k })
           (λ e. up-to _ i k e)
-      go (Has j s) i k = record { within = omega (arith, k .within); found = k .found; status = k .status; first = k .first }
+      go (Has j v) i k = record { within = omega (arith, k .within); found = k .found; here = k .here; first = k .first }
 
 -- ---- selections
 

@@ -4,10 +4,10 @@ use mathlib.Core.Bool.{cond, _&&_}
 use mathlib.Core.List.{List, [], _∷_, _++_, map}
 use lib.Dec.{eqb}
 use lib.ListN.{set}
-use Rattle.state.specs.Desk.{versionsIn, withVersions}
+use Rattle.state.specs.Desk.{versionsIn, deskWith, theVersions}
 use Rattle.state.specs.Selection.{own, versionOf}
 use Rattle.state.specs.Status.{counts, isCheck, confirmedStatus, settledStatus}
-use Rattle.state.specs.Version.{restatus, recordAt, held}
+use Rattle.state.specs.Version.{restatus, held}
 use Rattle.state.specs.Walk.{mapFirst}
 use Rattle.state.specs.declared.Desk.{Desk}
 use Rattle.state.specs.declared.Held.{Held}
@@ -21,7 +21,7 @@ submitted v vs = vs ++ (v ∷ [])
 -- "Positive turns status 1 into 2 if day ≤ C, else 4. Negative changes no status.": of the version found
 abbrev pub confirm : (clearing verdict day : ℕ) → Held → List VersionRecord → List VersionRecord
 confirm c y d Absent vs = vs
-confirm c y d (Has i t) vs = cond (eqb y 1 && isCheck t) (set vs i (restatus (confirmedStatus c d) (recordAt vs i))) vs
+confirm c y d (Has i v) vs = cond (eqb y 1 && isCheck (v .status)) (set vs i (restatus (confirmedStatus c d) v)) vs
 
 -- the same of the versions held
 abbrev pub noticed : (clearing point version verdict day : ℕ) → List VersionRecord → List VersionRecord
@@ -41,12 +41,12 @@ settledBy run vs = map (settle run vs) vs
 
 -- the desk with one version more
 abbrev pub submittedDesk : Desk → VersionRecord → Desk
-submittedDesk d v = withVersions d (d .count + 1) (set (d .versions) (d .count) v)
+submittedDesk d v = deskWith d (theVersions (d .frame .count + 1) (set (d .versions) (d .frame .count) v))
 
 -- the desk after a notice on the version found
 abbrev pub noticedDesk : Desk → Held → (verdict day : ℕ) → Desk
-noticedDesk d h y day = withVersions d (d .count) (confirm (d .opening .clearing .0) y day h (d .versions))
+noticedDesk d h y day = deskWith d (theVersions (d .frame .count) (confirm (d .frame .opening .clearing .0) y day h (d .versions)))
 
 -- the desk with its versions settled in a run
 abbrev pub settledDesk : Desk → (run : ℕ) → Desk
-settledDesk d run = withVersions d (d .count) (mapFirst (d .count) (settle run (versionsIn d)) (d .versions))
+settledDesk d run = deskWith d (theVersions (d .frame .count) (mapFirst (d .frame .count) (settle run (versionsIn d)) (d .versions)))

@@ -8,24 +8,27 @@ use Rattle.quantity.specs.Limits.{points, versions, deltas}
 use Rattle.state.specs.Point.{freePoint}
 use Rattle.state.specs.Version.{emptyVersion}
 use Rattle.state.specs.declared.Desk.{Desk}
+use Rattle.state.specs.declared.Frame.{Frame}
 use Rattle.state.specs.declared.Opening.{Opening}
 use Rattle.state.specs.declared.PointRecord.{PointRecord}
 use Rattle.state.specs.declared.Runs.{Runs}
 use Rattle.state.specs.declared.VersionRecord.{VersionRecord}
 
--- "all points free, no versions, no log rows used"; "The desk's day is 0 at opening."
+-- what stands beside the tables, of its parts
+abbrev pub frameOf : Opening → (day : ℕ) (groups : List ℕ) (count used : ℕ) → Runs → Frame
+frameOf o day gs n m s = record { opening = o; day = record { 0 = day }; groups = gs; count = n; used = m; settled = s }
+
+-- no run is settled
+abbrev pub noRun : Runs
+noRun = record { first = false; second = false }
+
+-- "no versions, no log rows used"; "The desk's day is 0 at opening."
+abbrev pub openFrame : Opening → (groups : List ℕ) → Frame
+openFrame o gs = frameOf o 0 gs 0 0 noRun
+
+-- "all points free, no versions, no log rows used"
 abbrev pub openDesk : Opening → (groups : List ℕ) → Desk
-openDesk o gs =
-    record {
-      opening = o;
-      day = record { 0 = 0 };
-      groups = gs;
-      count = 0;
-      used = 0;
-      settled = record { first = false; second = false };
-      points = replicate points freePoint;
-      versions = replicate versions emptyVersion;
-    }
+openDesk o gs = record { frame = openFrame o gs; points = replicate points freePoint; versions = replicate versions emptyVersion }
 
 -- "An unopened desk has no quarter hours."
 abbrev pub unopened : Opening
@@ -58,95 +61,42 @@ logRowsIn o = o .log / 4
 
 -- the versions held
 abbrev pub versionsIn : Desk → List VersionRecord
-versionsIn d = take (d .count) (d .versions)
+versionsIn d = take (d .frame .count) (d .versions)
 
 -- the rows of values in use, from row 0 on: one for each version; so "the next unused row of values" is row rowsUsed
-abbrev pub rowsUsed : Desk → ℕ
-rowsUsed d = d .count
+abbrev pub rowsUsed : Frame → ℕ
+rowsUsed f = f .count
 
--- "An accepted call with a day sets it."
-abbrev pub onDay : Desk → (day : ℕ) → Desk
-onDay d day =
-    record {
-      opening = d .opening;
-      day = record { 0 = day };
-      groups = d .groups;
-      count = d .count;
-      used = d .used;
-      settled = d .settled;
-      points = d .points;
-      versions = d .versions;
-    }
+-- ---- the desk with one thing changed
 
--- the desk with other delta groups
-abbrev pub withGroups : Desk → List ℕ → Desk
-withGroups d gs =
-    record {
-      opening = d .opening;
-      day = d .day;
-      groups = gs;
-      count = d .count;
-      used = d .used;
-      settled = d .settled;
-      points = d .points;
-      versions = d .versions;
-    }
+-- one thing of the desk, as it is then; of the version table the first `count` records are held
+pub data Thing : Type 0 where
+  theDay : (day : ℕ) → Thing
+  theGroups : List ℕ → Thing
+  theUsed : (used : ℕ) → Thing
+  theSettled : Runs → Thing
+  thePoints : List PointRecord → Thing
+  theVersions : (count : ℕ) → List VersionRecord → Thing
 
--- the desk with other points
-abbrev pub withPoints : Desk → List PointRecord → Desk
-withPoints d ps =
-    record {
-      opening = d .opening;
-      day = d .day;
-      groups = d .groups;
-      count = d .count;
-      used = d .used;
-      settled = d .settled;
-      points = ps;
-      versions = d .versions;
-    }
+-- the desk with another frame
+abbrev pub withFrame : Desk → Frame → Desk
+withFrame d f = record { frame = f; points = d .points; versions = d .versions }
 
--- the desk with another version table, of which the first `count` records are held
-abbrev pub withVersions : Desk → (count : ℕ) → List VersionRecord → Desk
-withVersions d n vs =
+-- the desk with that thing, all else as it was
+abbrev pub deskWith : Desk → Thing → Desk
+deskWith d (theDay n) = withFrame d (frameOf (d .frame .opening) n (d .frame .groups) (d .frame .count) (d .frame .used) (d .frame .settled))
+deskWith d (theGroups gs) = withFrame d (frameOf (d .frame .opening) (d .frame .day .0) gs (d .frame .count) (d .frame .used) (d .frame .settled))
+deskWith d (theUsed n) = withFrame d (frameOf (d .frame .opening) (d .frame .day .0) (d .frame .groups) (d .frame .count) n (d .frame .settled))
+deskWith d (theSettled s) = withFrame d (frameOf (d .frame .opening) (d .frame .day .0) (d .frame .groups) (d .frame .count) (d .frame .used) s)
+deskWith d (thePoints ps) = record { frame = d .frame; points = ps; versions = d .versions }
+deskWith d (theVersions n vs) =
     record {
-      opening = d .opening;
-      day = d .day;
-      groups = d .groups;
-      count = n;
-      used = d .used;
-      settled = d .settled;
+      frame = frameOf (d .frame .opening) (d .frame .day .0) (d .frame .groups) n (d .frame .used) (d .frame .settled);
       points = d .points;
       versions = vs;
     }
 
--- the desk with another number of log rows used
-abbrev pub withUsed : Desk → (used : ℕ) → Desk
-withUsed d n =
-    record {
-      opening = d .opening;
-      day = d .day;
-      groups = d .groups;
-      count = d .count;
-      used = n;
-      settled = d .settled;
-      points = d .points;
-      versions = d .versions;
-    }
-
--- the desk with other flags of settled runs
-abbrev pub withSettled : Desk → Runs → Desk
-withSettled d s =
-    record {
-      opening = d .opening;
-      day = d .day;
-      groups = d .groups;
-      count = d .count;
-      used = d .used;
-      settled = s;
-      points = d .points;
-      versions = d .versions;
-    }
+-- ---- flags
 
 -- the run's flag
 abbrev pub flagOf : (run : ℕ) → Runs → Bool

@@ -4,7 +4,6 @@ use mathlib.Core.Path.{_≡_}
 use mathlib.Core.Bool.{Bool, true, false, cond, _&&_}
 use mathlib.Core.List.{List}
 use lib.Dec.{leb, ltb, eqb}
-use Rattle.quantity.specs.declared.Version.{Version}
 use Rattle.state.specs.Status.{counts}
 use Rattle.state.specs.Version.{isAt, recordAt}
 use Rattle.state.specs.Walk.{walk}
@@ -13,23 +12,23 @@ use Rattle.state.specs.declared.VersionRow.{VersionRow}
 use Rattle.state.specs.declared.Selection.{Selection}
 use Rattle.state.specs.declared.Selection.the-variants.{None, Selected}
 
--- a row of the version table, selected
-abbrev pub row : (at : ℕ) → Version → Selection
-row i n = Selected (record { at = i; version = n })
+-- a record as a row of the version table: its index, its number, its row of values
+abbrev pub rowAt : (at : ℕ) → VersionRecord → VersionRow
+rowAt i v = record { at = i; version = v .version; row = v .row }
 
 -- a version beside the highest so far: of equal ones, which only a dishonest table has, the first stays
-abbrev pub raise : Selection → (at : ℕ) → Version → Selection
-raise None i n = row i n
-raise (Selected r) i n = cond (ltb (r .version .0) (n .0)) (row i n) (Selected r)
+abbrev pub raise : Selection → VersionRow → Selection
+raise None r = Selected r
+raise (Selected s) r = cond (ltb (s .version .0) (r .version .0)) (Selected r) (Selected s)
 
 -- a version beside the highest so far, where no record of its number stands before its own: of equal ones it is the first
-abbrev pub raiseEarlier : Selection → (at : ℕ) → Version → Selection
-raiseEarlier None i n = row i n
-raiseEarlier (Selected r) i n = cond (leb (r .version .0) (n .0)) (row i n) (Selected r)
+abbrev pub raiseEarlier : Selection → VersionRow → Selection
+raiseEarlier None r = Selected r
+raiseEarlier (Selected s) r = cond (leb (s .version .0) (r .version .0)) (Selected r) (Selected s)
 
 -- a record that passes the test is put beside it
 abbrev pub raiseIf : (VersionRecord → Bool) → Selection → (at : ℕ) → VersionRecord → Selection
-raiseIf f s i v = cond (f v) (raise s i (v .version)) s
+raiseIf f s i v = cond (f v) (raise s (rowAt i v)) s
 
 -- the highest version of those that pass the test
 unfoldable pub best : (VersionRecord → Bool) → List VersionRecord → Selection
@@ -48,10 +47,6 @@ versionOf (Selected r) = r .version .0
 -- "the point's highest", 0 without a version
 abbrev pub highest : (point : ℕ) → List VersionRecord → ℕ
 highest p vs = versionOf (best (isAt p) vs)
-
--- "the point has a version"
-abbrev pub hasVersion : (point : ℕ) → List VersionRecord → Bool
-hasVersion p vs = isSelected (best (isAt p) vs)
 
 -- a version of the point whose status counts in the run
 abbrev pub isCounted : (run point : ℕ) → VersionRecord → Bool
@@ -78,7 +73,7 @@ selected run p vs = inRun run (own 1 p vs) (own 2 p vs)
 -- higher, and none before it is as high
 pub record IsHighest (f : VersionRecord → Bool) (vs : List VersionRecord) (n : ℕ) (r : VersionRow) : Type 0 where
   pub within : r .at < n
-  pub version : recordAt vs (r .at) .version ≡ r .version
+  pub here : rowAt (r .at) (recordAt vs (r .at)) ≡ r
   pub passes : f (recordAt vs (r .at)) ≡ true
   pub most : (j : ℕ) → j < n → f (recordAt vs j) ≡ true → recordAt vs j .version .0 ≤ r .version .0
   pub first : (j : ℕ) → j < r .at → f (recordAt vs j) ≡ true → recordAt vs j .version .0 < r .version .0

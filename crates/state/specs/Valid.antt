@@ -9,6 +9,7 @@ use Rattle.quantity.specs.Lists.{all}
 use Rattle.state.specs.Desk.{rowsIn, logRowsIn, versionsIn, rowsUsed}
 use Rattle.state.specs.Point.{seriesOk}
 use Rattle.state.specs.declared.Desk.{Desk}
+use Rattle.state.specs.declared.Frame.{Frame}
 use Rattle.state.specs.declared.Opening.{Opening}
 use Rattle.state.specs.declared.PointState.{PointState}
 use Rattle.state.specs.declared.PointState.the-variants.{Free, Active}
@@ -37,19 +38,19 @@ abbrev pub versionRecordOk : (rows : ℕ) → VersionRecord → Bool
 versionRecordOk n v = pointOk (v .point .0) && (versionOk (v .version .0) && ltb (v .row .0) n)
 
 -- all but the two tables: what the opening fixed, day, delta groups, the counts, "used rows past the opening lengths included"
-unfoldable pub frameOk : Desk → Bool
-frameOk d =
-    openingOk (d .opening)
-    && (dayOk (d .day .0)
-    && (all groupOk (d .groups)
-    && (leb (d .count) versions
-    && (leb (rowsUsed d) (rowsIn (d .opening))
-    && leb (d .used) (logRowsIn (d .opening))))))
+unfoldable pub frameOk : Frame → Bool
+frameOk f =
+    openingOk (f .opening)
+    && (dayOk (f .day .0)
+    && (all groupOk (f .groups)
+    && (leb (f .count) versions
+    && (leb (rowsUsed f) (rowsIn (f .opening))
+    && leb (f .used) (logRowsIn (f .opening))))))
 
 -- all points, and the versions held: records past the count are not looked at
 unfoldable pub validDesk : Desk → Bool
 validDesk d =
-    frameOk d && (all pointRecordOk (d .points) && all (versionRecordOk (rowsIn (d .opening))) (versionsIn d))
+    frameOk (d .frame) && (all pointRecordOk (d .points) && all (versionRecordOk (rowsIn (d .frame .opening))) (versionsIn d))
 
 -- what a line of the table of series gives
 pub record SeriesIn (k a b : ℕ) : Type 0 where
@@ -59,15 +60,15 @@ pub record SeriesIn (k a b : ℕ) : Type 0 where
 
 -- what a valid desk gives
 pub record Sound (d : Desk) : Type 0 where
-  pub quarters : 1 ≤ d .opening .quarters
-  pub most : d .opening .quarters ≤ mostQuarters
-  pub deadlines : deadlinesOk (d .opening .first .0) (d .opening .clearing .0) (d .opening .correction .0) ≡ true
-  pub book : d .opening .book ≡ bookRows * d .opening .quarters
-  pub log : d .opening .log % 4 ≡ 0
-  pub day : d .day .0 ≤ lastDay
-  pub groups : all groupOk (d .groups) ≡ true
-  pub count : d .count ≤ versions
-  pub rows : rowsUsed d * d .opening .quarters ≤ d .opening .values
-  pub used : 4 * d .used ≤ d .opening .log
+  pub quarters : 1 ≤ d .frame .opening .quarters
+  pub most : d .frame .opening .quarters ≤ mostQuarters
+  pub deadlines : deadlinesOk (d .frame .opening .first .0) (d .frame .opening .clearing .0) (d .frame .opening .correction .0) ≡ true
+  pub book : d .frame .opening .book ≡ bookRows * d .frame .opening .quarters
+  pub log : d .frame .opening .log % 4 ≡ 0
+  pub day : d .frame .day .0 ≤ lastDay
+  pub groups : all groupOk (d .frame .groups) ≡ true
+  pub count : d .frame .count ≤ versions
+  pub rows : rowsUsed (d .frame) * d .frame .opening .quarters ≤ d .frame .opening .values
+  pub used : 4 * d .frame .used ≤ d .frame .opening .log
   pub points : all pointRecordOk (d .points) ≡ true
-  pub versions : all (versionRecordOk (rowsIn (d .opening))) (versionsIn d) ≡ true
+  pub versions : all (versionRecordOk (rowsIn (d .frame .opening))) (versionsIn d) ≡ true

@@ -33,27 +33,27 @@ isAt p v = eqb (v .point .0) p
 abbrev pub isVersion : (point version : ℕ) → VersionRecord → Bool
 isVersion p x v = isAt p v && eqb (v .version .0) x
 
--- the record at an index: a version's status and row of values are looked up there
+-- the record at an index
 abbrev pub recordAt : List VersionRecord → (at : ℕ) → VersionRecord
 recordAt vs i = getD vs i emptyVersion
 
 -- of two records of one version, which only a dishonest table has, the first answers
 abbrev pub orHeld : (point version : ℕ) → Held → (at : ℕ) → VersionRecord → Held
-orHeld p x Absent i v = cond (isVersion p x v) (Has i (v .status)) Absent
-orHeld p x (Has j s) i v = Has j s
+orHeld p x Absent i v = cond (isVersion p x v) (Has i v) Absent
+orHeld p x (Has j w) i v = Has j w
 
--- "no such version", or where it stands and its status
+-- "no such version", or where it stands and its record
 unfoldable pub held : (point version : ℕ) → List VersionRecord → Held
 held p x vs = walk (orHeld p x) Absent 0 vs
 
--- what a version found among the first n records is: the first record of that point and number, with its status
-pub record IsHeld (point version : ℕ) (vs : List VersionRecord) (n at : ℕ) (s : Status) : Type 0 where
+-- what a version found among the first n records is: the first record of that point and number
+pub record IsHeld (point version : ℕ) (vs : List VersionRecord) (n at : ℕ) (v : VersionRecord) : Type 0 where
   pub within : at < n
   pub found : isVersion point version (recordAt vs at) ≡ true
-  pub status : recordAt vs at .status ≡ s
+  pub here : recordAt vs at ≡ v
   pub first : (j : ℕ) → j < at → isVersion point version (recordAt vs j) ≡ false
 
 -- and without one none of them has that point and number
 abbrev pub HeldIn : (point version : ℕ) → List VersionRecord → ℕ → Held → Type 0
 HeldIn p x vs n Absent = (j : ℕ) → j < n → isVersion p x (recordAt vs j) ≡ false
-HeldIn p x vs n (Has i s) = IsHeld p x vs n i s
+HeldIn p x vs n (Has i v) = IsHeld p x vs n i v

@@ -1,5 +1,6 @@
 // The state made anew.
 use crate::Desk;
+use crate::Frame;
 use crate::Opening;
 use crate::PointRecord;
 use crate::PointState;
@@ -10,10 +11,30 @@ use crate::Status;
 use crate::VersionRecord;
 use quantity::Day;
 use quantity::Version;
+use quantity::limits::DELTAS;
+use quantity::limits::POINTS;
+use quantity::limits::VERSIONS;
 ghost use mathlib.Core.Path.{_≡_};
-ghost use Rattle.state.specs.Desk.{openDesk, freshDesk};
+ghost use Rattle.state.specs.Desk.{openFrame, openDesk, freshDesk};
 
-pub fn opened(opening: Opening, groups: [u64; 17]) -> Desk
+// What stands beside the tables at an opening.
+pub fn open_frame(opening: Opening, groups: [u64; DELTAS as usize]) -> Frame
+    ensures { λ r. ⌜ r ≡ openFrame opening groups ⌝ }
+{
+    Frame {
+        opening,
+        day: Day(0),
+        groups,
+        count: 0,
+        used: 0,
+        settled: Runs {
+            first: false,
+            second: false,
+        },
+    }
+}
+
+pub fn opened(opening: Opening, groups: [u64; DELTAS as usize]) -> Desk
     ensures { λ r. ⌜ r ≡ openDesk opening groups ⌝ }
 {
     let free = PointRecord {
@@ -25,18 +46,11 @@ pub fn opened(opening: Opening, groups: [u64; 17]) -> Desk
         row: Row(0),
         status: Status::Check,
     };
+    let frame = open_frame(opening, groups);
     Desk {
-        opening,
-        day: Day(0),
-        groups,
-        count: 0,
-        used: 0,
-        settled: Runs {
-            first: false,
-            second: false,
-        },
-        points: [free; 256],
-        versions: [empty; 512],
+        frame,
+        points: [free; POINTS as usize],
+        versions: [empty; VERSIONS as usize],
     }
 }
 
@@ -52,5 +66,5 @@ pub fn fresh_desk() -> Desk
         book: 0,
         log: 0,
     };
-    opened(opening, [0; 17])
+    opened(opening, [0; DELTAS as usize])
 }

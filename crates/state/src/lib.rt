@@ -6,6 +6,9 @@ pub mod statuses;
 
 use quantity::Day;
 use quantity::Version;
+use quantity::limits::DELTAS;
+use quantity::limits::POINTS;
+use quantity::limits::VERSIONS;
 
 // A day from 0 to 400.
 pub struct ShortDay(pub u16);
@@ -73,23 +76,29 @@ pub struct Runs {
     pub second: bool,
 }
 
-// The first `count` records of `versions` are the versions held, in the order of their submission; what stands past them is nobody's.
-// `groups` are the delta groups of T and of areas 1 to 16; `used` counts the rows of the log.
-pub struct Desk {
+// What stands beside the two tables: what the opening fixed, the day, the delta groups of T and of areas 1 to 16, how many versions are held,
+// how many rows of the log are used, and the runs settled.
+pub struct Frame {
     pub opening: Opening,
     pub day: Day,
-    pub groups: [u64; 17],
+    pub groups: [u64; DELTAS as usize],
     pub count: u64,
     pub used: u64,
     pub settled: Runs,
-    pub points: [PointRecord; 256],
-    pub versions: [VersionRecord; 512],
 }
 
-// A row of the version table: its index, and the number of the version there.
+// The first `count` records of `versions` are the versions held, in the order of their submission; what stands past them is unused.
+pub struct Desk {
+    pub frame: Frame,
+    pub points: [PointRecord; POINTS as usize],
+    pub versions: [VersionRecord; VERSIONS as usize],
+}
+
+// A row of the version table: its index, the number of the version there, and the version's row of values.
 pub struct VersionRow {
     pub at: u64,
     pub version: Version,
+    pub row: Row,
 }
 
 // The version that a run selects for a point, if there is one.
@@ -98,8 +107,8 @@ pub enum Selection {
     Selected(VersionRow),
 }
 
-// A version that was asked for: where it stands in the version table, and its status.
+// A version that was asked for: where it stands in the version table, and its record.
 pub enum Held {
     Absent,
-    Has { at: u64, status: Status },
+    Has { at: u64, record: VersionRecord },
 }

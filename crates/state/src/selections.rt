@@ -7,7 +7,7 @@ use quantity::PointNo;
 use quantity::Version;
 ghost use mathlib.Core.Path.{_≡_};
 ghost use mathlib.Core.Bool.{cond};
-ghost use Rattle.state.specs.Selection.{raise, raiseEarlier, isCounted, isSelected, versionOf, orElse, inRun};
+ghost use Rattle.state.specs.Selection.{rowAt, raise, raiseEarlier, isCounted, isSelected, versionOf, orElse};
 ghost use Rattle.state.specs.Version.{isAt, isVersion};
 
 pub fn is_at(v: VersionRecord, point: PointNo) -> bool
@@ -29,15 +29,24 @@ pub fn is_counted(v: VersionRecord, run: u64, point: PointNo) -> bool
     is_at(v, point) & counts_in(run, status)
 }
 
+// A record as a row of the version table.
+pub fn row_at(at: u64, v: VersionRecord) -> VersionRow
+    ensures { λ r. ⌜ r ≡ rowAt at v ⌝ }
+{
+    let version = v.version;
+    let row = v.row;
+    VersionRow { at, version, row }
+}
+
 // A version beside the highest so far.
-pub fn raised(s: Selection, at: u64, version: Version) -> Selection
-    ensures { λ r. ⌜ r ≡ raise s at version ⌝ }
+pub fn raised(s: Selection, r: VersionRow) -> Selection
+    ensures { λ t. ⌜ t ≡ raise s r ⌝ }
 {
     match s {
-        Selection::None => Selection::Selected(VersionRow { at, version }),
-        Selection::Selected(row) => {
-            if row.version.0 < version.0 {
-                Selection::Selected(VersionRow { at, version })
+        Selection::None => Selection::Selected(r),
+        Selection::Selected(top) => {
+            if top.version.0 < r.version.0 {
+                Selection::Selected(r)
             } else {
                 s
             }
@@ -46,14 +55,14 @@ pub fn raised(s: Selection, at: u64, version: Version) -> Selection
 }
 
 // The same, where no record of its number stands before its own.
-pub fn raised_earlier(s: Selection, at: u64, version: Version) -> Selection
-    ensures { λ r. ⌜ r ≡ raiseEarlier s at version ⌝ }
+pub fn raised_earlier(s: Selection, r: VersionRow) -> Selection
+    ensures { λ t. ⌜ t ≡ raiseEarlier s r ⌝ }
 {
     match s {
-        Selection::None => Selection::Selected(VersionRow { at, version }),
-        Selection::Selected(row) => {
-            if row.version.0 <= version.0 {
-                Selection::Selected(VersionRow { at, version })
+        Selection::None => Selection::Selected(r),
+        Selection::Selected(top) => {
+            if top.version.0 <= r.version.0 {
+                Selection::Selected(r)
             } else {
                 s
             }
@@ -61,10 +70,10 @@ pub fn raised_earlier(s: Selection, at: u64, version: Version) -> Selection
     }
 }
 
-pub fn raised_if(test: bool, s: Selection, at: u64, version: Version) -> Selection
-    ensures { λ r. ⌜ r ≡ cond test (raise s at version) s ⌝ }
+pub fn raised_if(test: bool, s: Selection, r: VersionRow) -> Selection
+    ensures { λ t. ⌜ t ≡ cond test (raise s r) s ⌝ }
 {
-    if test { raised(s, at, version) } else { s }
+    if test { raised(s, r) } else { s }
 }
 
 pub fn is_selected(s: Selection) -> bool
@@ -92,16 +101,5 @@ pub fn or_else(s: Selection, t: Selection) -> Selection
     match s {
         Selection::None => t,
         Selection::Selected(_) => s,
-    }
-}
-
-// A run's selection, of run 1's and run 2's own.
-pub fn in_run(run: u64, first: Selection, second: Selection) -> Selection
-    ensures { λ r. ⌜ r ≡ inRun run first second ⌝ }
-{
-    if run == 1 {
-        first
-    } else {
-        or_else(second, first)
     }
 }
