@@ -1,6 +1,6 @@
 -- The book follows the exact figures: after a change of the versions of a point. Assumes nothing.
 use Prim.Native.Nat.{ℕ, _*_, _≤_, _<_}
-use mathlib.Core.Path.{_≡_, refl, sym, ap, _∙_}
+use mathlib.Core.Path.{_≡_, refl, sym, ap, _∙_, subst}
 use mathlib.Core.Bool.{Bool, true, false, cond}
 use mathlib.Core.List.{List, []}
 use native.Mathlib.Omega.{arith}
@@ -19,14 +19,15 @@ use Rattle.state.specs.declared.PointRecord.{PointRecord}
 use Rattle.state.specs.declared.Selection.{Selection}
 use Rattle.state.specs.declared.Selection.the-variants.{None, Selected}
 use Rattle.state.specs.declared.VersionRecord.{VersionRecord}
+use Rattle.model.specs.Laws.{SameRow}
 use Rattle.model.specs.Log.{differ}
 use Rattle.model.specs.Series.{sidesOf, adds, energy, figureOf}
-use Rattle.model.specs.Step.{placeOf, amendRun, amended}
+use Rattle.model.specs.Step.{amendRun, amended}
 use Rattle.model.specs.declared.Sides.{Sides}
 use Rattle.model.proofs.Books.{Figures, Booked, booked-same, Reads, Holding, amend-sides}
 use Rattle.model.proofs.Figures.{part, figure-follows, state-in}
 use Rattle.model.proofs.Logs.{differ-not}
-use Rattle.model.proofs.Selections.{Within, selected-within}
+use Rattle.model.proofs.Selections.{Sited, selected-sited, sited-on}
 use Rattle.model.proofs.SeriesTable.{InBook, in-book, shaped, adds-zero, adds-minus}
 
 -- each version's row of values has the submission's energies as words; in the base, row i is submission i's
@@ -36,42 +37,45 @@ pub record Stored (q : ℕ) (values : List ℕ) (vs : List VersionRecord) (es : 
   pub rows : (i : ℕ) → i < length vs → recordAt vs i .row .0 ≡ i
   pub reads : (i : ℕ) → i < length vs → Reads q values (recordAt vs i .row .0 * q) (λ (j : ℕ). getD (getD es i []) j (pos 0))
 
-within-more : (m n : ℕ) → m ≤ n → (s : Selection) → Within m s → Within n s
-within-more m n h None w = tt
-within-more m n h (Selected r) w = omega arith
+energy-same : (es : List (List ℤ)) (s t : Selection) → SameRow s t → (j : ℕ) → energy es s j ≡ energy es t j
+unfolding energy
+energy-same es None None e j = refl
+energy-same es None (Selected t) e j = absurd e
+energy-same es (Selected s) None e j = absurd e
+energy-same es (Selected s) (Selected t) e j = ap (λ (i : ℕ). getD (getD es i []) j (pos 0)) (e .0)
 
 module _ (q : ℕ) (values : List ℕ) (ws : List VersionRecord) (es : List (List ℤ)) (S : Stored q values ws es) where
-  holding : (s : Selection) → Within (length ws) s → Holding q values (placeOf q ws s) (energy es s)
-  unfolding placeOf energy
+  holding : (s : Selection) → Sited ws s → Holding q values s (energy es s)
+  unfolding energy
   holding None w = λ j. refl
-  holding (Selected r) w = S .reads (r .at) w
+  holding (Selected r) w = subst (λ (n : ℕ). Reads q values (n * q) (λ (j : ℕ). getD (getD es (r .at) []) j (pos 0))) (w .1) (S .reads (r .at) (w .0))
 
   -- one run
-  amend-run : (run : ℕ) → 1 ≤ run → run ≤ runs → (s : Sides) → InBook (s .to) → InBook (s .from) → (old new : Selection) → Within (length ws) old → Within (length ws) new
+  amend-run : (run : ℕ) → 1 ≤ run → run ≤ runs → (s : Sides) → InBook (s .to) → InBook (s .from) → (old new : Selection) → Sited ws old → Sited ws new
       → (book : List ℕ) (F : Figures) → Booked q book F
-      → Booked q (amendRun run q s ws old new values book) (λ r m j. F r m j +ℤ cond (eqb run r) (adds s m (energy es new j -ℤ energy es old j)) (pos 0))
+      → Booked q (amendRun run q s old new values book) (λ r m j. F r m j +ℤ cond (eqb run r) (adds s m (energy es new j -ℤ energy es old j)) (pos 0))
   unfolding amendRun
   amend-run run lo hi s x y old new wo wn book F B =
       by-test (λ (l : List ℕ). Booked q l after) (differ old new) _ book
-      (λ e. amend-sides q run lo hi values (placeOf q ws old) (placeOf q ws new) (energy es old) (energy es new) (holding old wo) (holding new wn) s x y book F B)
+      (λ e. amend-sides q run lo hi values old new (energy es old) (energy es new) (holding old wo) (holding new wn) s x y book F B)
       (λ e. booked-same q book F after (λ r m j _ _ _ _. sym (stays (differ-not old new e) (eqb run r) (F r m j) m j)) B)
     where
       after : Figures
       after = λ r m j. F r m j +ℤ cond (eqb run r) (adds s m (energy es new j -ℤ energy es old j)) (pos 0)
 
-      stays : old ≡ new → (t : Bool) (f : ℤ) (m j : ℕ) → f +ℤ cond t (adds s m (energy es new j -ℤ energy es old j)) (pos 0) ≡ f
-      stays e true f m j = ap (λ (o : Selection). f +ℤ adds s m (energy es new j -ℤ energy es o j)) e ∙ rw (+ℤ-invr (energy es new j), adds-zero s m) (+ℤ-idr f)
+      stays : SameRow old new → (t : Bool) (f : ℤ) (m j : ℕ) → f +ℤ cond t (adds s m (energy es new j -ℤ energy es old j)) (pos 0) ≡ f
+      stays e true f m j = ap (λ (z : ℤ). f +ℤ adds s m (energy es new j -ℤ z)) (energy-same es old new e j) ∙ rw (+ℤ-invr (energy es new j), adds-zero s m) (+ℤ-idr f)
       stays e false f m j = +ℤ-idr f
 
   -- both runs, at a point whose versions changed
   pub follow : (ps : List PointRecord) (gs : List ℕ) → all pointRecordOk ps ≡ true → all groupOk gs ≡ true → (p : ℕ) → 1 ≤ p → p ≤ points → (vs : List VersionRecord) → length vs ≤ length ws
-      → ((r i : ℕ) → (i ≡ p → ⊥) → own r i ws ≡ own r i vs) → (book : List ℕ) → Booked q book (figureOf ps gs vs es)
+      → ((i : ℕ) → i < length vs → recordAt ws i .row .0 ≡ recordAt vs i .row .0) → ((r i : ℕ) → (i ≡ p → ⊥) → own r i ws ≡ own r i vs) → (book : List ℕ) → Booked q book (figureOf ps gs vs es)
       → Booked q (amended q (sidesOf gs (pointAt ps p)) p vs ws values book) (figureOf ps gs ws es)
   unfolding amended
-  follow ps gs inP inG p lo hi vs few e book B =
+  follow ps gs inP inG p lo hi vs few rows e book B =
       booked-same q _ _ (figureOf ps gs ws es) (λ r m j a b _ _. both r m j a b (ℕ-discrete r 1))
-      (amend-run 2 (omega arith) (omega arith) s x y (selected 2 p vs) (selected 2 p ws) (before 2) (selected-within 2 p ws) _ _
-      (amend-run 1 (omega arith) (omega arith) s x y (selected 1 p vs) (selected 1 p ws) (before 1) (selected-within 1 p ws) book (figureOf ps gs vs es) B))
+      (amend-run 2 (omega arith) (omega arith) s x y (selected 2 p vs) (selected 2 p ws) (before 2) (selected-sited 2 p ws) _ _
+      (amend-run 1 (omega arith) (omega arith) s x y (selected 1 p vs) (selected 1 p ws) (before 1) (selected-sited 1 p ws) book (figureOf ps gs vs es) B))
     where
       s : Sides
       s = sidesOf gs (pointAt ps p)
@@ -82,8 +86,8 @@ module _ (q : ℕ) (values : List ℕ) (ws : List VersionRecord) (es : List (Lis
       y : InBook (s .from)
       y = in-book gs inG (shaped (pointAt ps p) (state-in ps inP p) .from)
 
-      before : (run : ℕ) → Within (length ws) (selected run p vs)
-      before run = within-more (length vs) (length ws) few (selected run p vs) (selected-within run p vs)
+      before : (run : ℕ) → Sited ws (selected run p vs)
+      before run = sited-on vs ws few rows (selected run p vs) (selected-sited run p vs)
 
       A : (r m j : ℕ) → ℤ
       A r m j = adds s m (energy es (selected r p ws) j -ℤ energy es (selected r p vs) j)

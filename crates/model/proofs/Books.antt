@@ -20,10 +20,10 @@ use Rattle.book.specs.declared.Way.{Way}
 use Rattle.book.specs.declared.Way.the-variants.{In, Out}
 use Rattle.book.proofs.Places.{row-within, rows-apart}
 use Rattle.book.proofs.Postings.{length-posted, posted-in, posted-outside}
+use Rattle.state.specs.declared.Selection.{Selection}
+use Rattle.state.specs.declared.Selection.the-variants.{None, Selected}
 use Rattle.model.specs.Series.{onSide, adds}
 use Rattle.model.specs.Step.{postFrom, amendRow, amendSide, amendSides}
-use Rattle.model.specs.declared.Place.{Place}
-use Rattle.model.specs.declared.Place.the-variants.{Nowhere, At}
 use Rattle.model.specs.declared.Side.{Side}
 use Rattle.model.specs.declared.Side.the-variants.{Outside, Group, Delta}
 use Rattle.model.specs.declared.Sides.{Sides}
@@ -87,25 +87,25 @@ module _ (w : Way) (q run k : ℕ) (lo : 1 ≤ run) (hi : run ≤ runs) (row : k
           (rows-apart q run k r m lo hi a b row d (λ both. true≢false (sym (and-both _ _ (eq-eqb run r (both .0)) (eq-eqb k m (both .1))) ∙ e))))
           ∙ B .at r m j a b d l ∙ ap word (sym (+ℤ-idr (F r m j)))
 
--- a place that holds a series; none holds nothing
-abbrev pub Holding : (q : ℕ) (values : List ℕ) → Place → (ℕ → ℤ) → Type 0
-Holding q values Nowhere c = (j : ℕ) → c j ≡ pos 0
-Holding q values (At i) c = Reads q values i c
+-- a selection whose row of values has a series; none has nothing
+abbrev pub Holding : (q : ℕ) (values : List ℕ) → Selection → (ℕ → ℤ) → Type 0
+Holding q values None c = (j : ℕ) → c j ≡ pos 0
+Holding q values (Selected r) c = Reads q values (r .row .0 * q) c
 
 turned-zero : (w : Way) → turned w (pos 0) ≡ pos 0
 turned-zero In = refl
 turned-zero Out = refl
 
 module _ (q run : ℕ) (lo : 1 ≤ run) (hi : run ≤ runs) (values : List ℕ) where
-  post-from : (w : Way) (k : ℕ) → k < runRows → (book : List ℕ) (F : Figures) (p : Place) (c : ℕ → ℤ) → Holding q values p c → Booked q book F
+  post-from : (w : Way) (k : ℕ) → k < runRows → (book : List ℕ) (F : Figures) (p : Selection) (c : ℕ → ℤ) → Holding q values p c → Booked q book F
       → Booked q (postFrom w book (rowStart q run k) q values p) (shift w run k c F)
   unfolding postFrom
-  post-from w k row book F Nowhere c h B =
+  post-from w k row book F None c h B =
       booked-same q book F (shift w run k c F)
       (λ r m j _ _ _ _. sym (ap (λ (z : ℤ). F r m j +ℤ cond (eqb run r && eqb k m) z (pos 0)) (ap (turned w) (h j) ∙ turned-zero w) ∙ rw (cond-zero (eqb run r && eqb k m)) (+ℤ-idr (F r m j)))) B
-  post-from w k row book F (At i) c h B = booked-post w q run k lo hi row book values i c F B h
+  post-from w k row book F (Selected r) c h B = booked-post w q run k lo hi row book values (r .row .0 * q) c F B h
 
-  module _ (old new : Place) (a b : ℕ → ℤ) (hold : Holding q values old a) (hnew : Holding q values new b) where
+  module _ (old new : Selection) (a b : ℕ → ℤ) (hold : Holding q values old a) (hnew : Holding q values new b) where
     -- the new series less the old one
     change : ℕ → ℤ
     change j = b j -ℤ a j

@@ -112,32 +112,32 @@ log-full n log (Row r) e = ((r, refl), ltb-true log (4 * (n + 1)) e)
 
 module _ (d : Desk) (s : Stores) (p x day : ℕ) (es : List ℤ) where
   -- submit says 16 only if 512 versions are held or (count + 1) × Q exceeds values
-  pub sixteen : step d (record { call = submits p x day es; stores = s }) .answer ≡ Refused NoRow → (512 ≤ length (versionsIn d)) ⊎ (d .opening .values < (length (versionsIn d) + 1) * d .opening .quarters)
+  pub sixteen : step d (record { call = submits p x day es; stores = s }) .answer ≡ Refused NoRow → (512 ≤ length (versionsIn d)) ⊎ (d .frame .opening .values < (length (versionsIn d) + 1) * d .frame .opening .quarters)
   unfolding any
   sixteen e =
       let full = leb 512 (length (versionsIn d)) in
-      let past = ltb (d .opening .values) ((length (versionsIn d) + 1) * d .opening .quarters) in
+      let past = ltb (d .frame .opening .values) ((length (versionsIn d) + 1) * d .frame .opening .quarters) in
       let test : (full || past) ≡ true = sym (or-false (full || past)) ∙ test-of d (record { call = submits p x day es; stores = s }) NoRow e in
-      ⊎-elim (λ (h : full ≡ true). inl (leb-true 512 (length (versionsIn d)) h)) (λ (h : past ≡ true). inr (ltb-true (d .opening .values) _ h)) (either full past test)
+      ⊎-elim (λ (h : full ≡ true). inl (leb-true 512 (length (versionsIn d)) h)) (λ (h : past ≡ true). inr (ltb-true (d .frame .opening .values) _ h)) (either full past test)
 
   -- and an accepted one had a row free
-  pub sixteen-free : step d (record { call = submits p x day es; stores = s }) .answer ≡ Accepted → (length (versionsIn d) < 512) × ((length (versionsIn d) + 1) * d .opening .quarters ≤ d .opening .values)
+  pub sixteen-free : step d (record { call = submits p x day es; stores = s }) .answer ≡ Accepted → (length (versionsIn d) < 512) × ((length (versionsIn d) + 1) * d .frame .opening .quarters ≤ d .frame .opening .values)
   sixteen-free e =
       let free = accepted-passed d (record { call = submits p x day es; stores = s }) e .1 .1 .1 .1 .1 .1 .1 .1 .1 .1 .0 in
-      (leb-false 512 (length (versionsIn d)) (or-left _ _ free), ltb-false (d .opening .values) _ (or-right (leb 512 (length (versionsIn d))) _ free))
+      (leb-false 512 (length (versionsIn d)) (or-left _ _ free), ltb-false (d .frame .opening .values) _ (or-right (leb 512 (length (versionsIn d))) _ free))
 
   -- 17 only if a row is due and 4 × (used + 1) exceeds the log
   pub seventeen : step d (record { call = submits p x day es; stores = s }) .answer ≡ Refused NoLogRow
-      → ((r : LogRow) × (due (versionsIn d) (submitted (newVersion (d .opening .first .0) (length (versionsIn d)) p x day) (versionsIn d)) p day ≡ Row r)) × (d .opening .log < 4 * (d .used + 1))
+      → ((r : LogRow) × (due (versionsIn d) (submitted (newVersion (d .frame .opening .first .0) (length (versionsIn d)) p x day) (versionsIn d)) p day ≡ Row r)) × (d .frame .opening .log < 4 * (d .frame .used + 1))
   unfolding any
   seventeen e =
-      let row = due (versionsIn d) (submitted (newVersion (d .opening .first .0) (length (versionsIn d)) p x day) (versionsIn d)) p day in
-      log-full (d .used) (d .opening .log) row (sym (or-false (logFull (d .used) (d .opening .log) row)) ∙ test-of d (record { call = submits p x day es; stores = s }) NoLogRow e)
+      let row = due (versionsIn d) (submitted (newVersion (d .frame .opening .first .0) (length (versionsIn d)) p x day) (versionsIn d)) p day in
+      log-full (d .frame .used) (d .frame .opening .log) row (sym (or-false (logFull (d .frame .used) (d .frame .opening .log) row)) ∙ test-of d (record { call = submits p x day es; stores = s }) NoLogRow e)
 
 -- the same of a notice
 pub seventeen-notice : (d : Desk) (s : Stores) (p x y day : ℕ) → step d (record { call = notices p x y day; stores = s }) .answer ≡ Refused NoLogRow
-    → ((r : LogRow) × (due (versionsIn d) (noticed (d .opening .clearing .0) p x y day (versionsIn d)) p day ≡ Row r)) × (d .opening .log < 4 * (d .used + 1))
+    → ((r : LogRow) × (due (versionsIn d) (noticed (d .frame .opening .clearing .0) p x y day (versionsIn d)) p day ≡ Row r)) × (d .frame .opening .log < 4 * (d .frame .used + 1))
 unfolding any
 seventeen-notice d s p x y day e =
-    let row = due (versionsIn d) (noticed (d .opening .clearing .0) p x y day (versionsIn d)) p day in
-    log-full (d .used) (d .opening .log) row (sym (or-false (logFull (d .used) (d .opening .log) row)) ∙ test-of d (record { call = notices p x y day; stores = s }) NoLogRow e)
+    let row = due (versionsIn d) (noticed (d .frame .opening .clearing .0) p x y day (versionsIn d)) p day in
+    log-full (d .frame .used) (d .frame .opening .log) row (sym (or-false (logFull (d .frame .used) (d .frame .opening .log) row)) ∙ test-of d (record { call = notices p x y day; stores = s }) NoLogRow e)

@@ -10,6 +10,7 @@ use lib.Dec.{leb, eqb}
 use lib.ListN.{length, length-set, List·getD-map}
 use lib.Seq.{getD-set-same, getD-set-other}
 use Rattle.quantity.specs.Limits.{runs, groups, runOk, groupOk}
+use Rattle.quantity.specs.Lists.{fold}
 use Rattle.quantity.proofs.Tests.{by-test, and-left, and-right, or-left, within-low, within-high}
 use Rattle.book.specs.Place.{groupRow, rowStart}
 use Rattle.book.proofs.Places.{row-within}
@@ -29,12 +30,11 @@ use Rattle.state.specs.declared.VersionRecord.{VersionRecord}
 use Rattle.state.specs.declared.VersionRow.{VersionRow}
 use Rattle.state.proofs.Kept.{notice-negative, notice-other, settle-own, settle-selected}
 use Rattle.state.proofs.Picks.{held-right, submit-other}
-use Rattle.model.specs.Call.{Call, opens, activates, deactivates, submits, notices, assigns, shows, asks, settles, Stores, Lengths, Lent, told}
+use Rattle.model.specs.Call.{Call, opens, activates, deactivates, submits, notices, assigns, shows, asks, settles, Stores, Lengths, Lent, told, telling}
 use Rattle.model.specs.Causes.{rules, notCheck, otherLengths}
 use Rattle.model.specs.Laws.{Passed, Confirms, OwesOne}
-use Rattle.model.specs.Plain.{sets}
+use Rattle.model.specs.Plain.{Worked, after, viewBy}
 use Rattle.model.specs.Step.{lines, refusalBy, decided, step}
-use Rattle.model.specs.View.{View}
 use Rattle.model.specs.declared.Answer.the-variants.{Accepted}
 use Rattle.model.proofs.CauseLaws.{accepted-passed}
 use Rattle.model.proofs.Invariant.{book-is, quarters-in}
@@ -44,31 +44,32 @@ use Rattle.model.proofs.Selections.{own-uncounted, own-unturned}
 -- ---- "Positive turns status 1 into 2 if day ≤ C, else 4. Negative changes no status."
 
 -- an accepted negative notice changes none
-pub notice-none : (v : View) (p x y d : ℕ) → (y ≡ 1 → ⊥) → sets (notices p x y d) .versions (v .opening) (v .versions) ≡ v .versions
-notice-none v p x y d ne = notice-negative (v .opening .clearing .0) p x y d (v .versions) ne
+pub notice-none : (w : Worked) (n : Lengths) (p x y d : ℕ) → (y ≡ 1 → ⊥) → after (telling n (notices p x y d)) w .versions ≡ w .versions
+unfolding after fold
+notice-none w n p x y d ne = notice-negative (w .opening .clearing .0) p x y d (w .versions) ne
 
 -- an accepted positive one changes exactly one version's
-pub notice-one : (v : View) (n : Lengths) (p x d : ℕ) → Passed (rules v n (notices p x 1 d))
-    → Confirms p x (confirmedStatus (v .opening .clearing .0) d) (v .versions) (sets (notices p x 1 d) .versions (v .opening) (v .versions))
-unfolding notCheck
-notice-one v n p x d P = go (held p x (v .versions)) (P .1 .1 .1 .1 .1 .1 .1 .0) (held-right p x (v .versions))
+pub notice-one : (w : Worked) (n : Lengths) (p x d : ℕ) → Passed (rules (viewBy w) n (notices p x 1 d))
+    → Confirms p x (confirmedStatus (w .opening .clearing .0) d) (w .versions) (after (telling n (notices p x 1 d)) w .versions)
+unfolding notCheck after fold
+notice-one w n p x d P = go (held p x (w .versions)) (P .1 .1 .1 .1 .1 .1 .1 .0) (held-right p x (w .versions))
   where
-    go : (h : Held) → notCheck h ≡ false → HeldIn p x (v .versions) (length (v .versions)) h → Confirms p x (confirmedStatus (v .opening .clearing .0) d) (v .versions) (confirm (v .opening .clearing .0) 1 d h (v .versions))
+    go : (h : Held) → notCheck h ≡ false → HeldIn p x (w .versions) (length (w .versions)) h → Confirms p x (confirmedStatus (w .opening .clearing .0) d) (w .versions) (confirm (w .opening .clearing .0) 1 d h (w .versions))
     go Absent e q = absurd (true≢false e)
-    go (Has i t) e q =
-        let check : isCheck t ≡ true = not-false (isCheck t) e in
-        let w = restatus (confirmedStatus (v .opening .clearing .0) d) (recordAt (v .versions) i) in
+    go (Has i v) e q =
+        let check : isCheck (v .status) ≡ true = not-false (isCheck (v .status)) e in
+        let u = restatus (confirmedStatus (w .opening .clearing .0) d) v in
         record {
           at = i;
           named = q .found;
-          check = ap isCheck (q .status) ∙ check;
+          check = ap (λ (r : VersionRecord). isCheck (r .status)) (q .here) ∙ check;
           restates =
               rw check
               (record {
                 within = q .within;
-                there = getD-set-same (v .versions) i w emptyVersion (q .within);
-                others = λ j ne. getD-set-other (v .versions) i j w emptyVersion ne;
-                size = length-set (v .versions) i w;
+                there = getD-set-same (w .versions) i u emptyVersion (q .within) ∙ ap (restatus (confirmedStatus (w .opening .clearing .0) d)) (sym (q .here));
+                others = λ j ne. getD-set-other (w .versions) i j u emptyVersion ne;
+                size = length-set (w .versions) i u;
               });
         }
 
@@ -108,42 +109,48 @@ noticed-once : (c d : ℕ) → (counts 1 (confirmedStatus c d) ≡ false) ⊎ (c
 noticed-once c d = by-test (λ (s : Status). (counts 1 s ≡ false) ⊎ (counts 2 s ≡ false)) (leb d c) Settlement Correction (λ _. inr refl) (λ _. inl refl)
 
 -- a call that changes no selection
-owes-none : (p : ℕ) (vs ws : List VersionRecord) → ((r i : ℕ) → own r i ws ≡ own r i vs) → OwesOne p vs ws
-owes-none p vs ws e = record { elsewhere = λ r i _. e r i; one = inl (e 1 p) }
+owes-none : (vs ws : List VersionRecord) → ((r i : ℕ) → own r i ws ≡ own r i vs) → OwesOne vs ws
+owes-none vs ws e = record { point = 0; elsewhere = λ r i _. e r i; one = inl (e 1 0) }
 
-pub one-owed : (v : View) (c : Call) → OwesOne (sets c .point) (v .versions) (sets c .versions (v .opening) (v .versions))
-one-owed v (opens q f c k gs) = owes-none 0 (v .versions) (v .versions) (λ r i. refl)
-one-owed v (activates p k a b d) = owes-none 0 (v .versions) (v .versions) (λ r i. refl)
-one-owed v (deactivates p d) = owes-none 0 (v .versions) (v .versions) (λ r i. refl)
-one-owed v (submits p x d es) =
-    let f = v .opening .first .0 in
-    let n = length (v .versions) in
-    record { elsewhere = λ r i ne. submit-other r i (newVersion f n p x d) (v .versions) (λ z. ne (sym z)); one = inr (own-uncounted 2 p f n p x d (v .versions) (submitted-once f d)) }
-one-owed v (notices p x y d) =
-    let c = v .opening .clearing .0 in
+pub one-owed : (w : Worked) (n : Lengths) (c : Call) → OwesOne (w .versions) (after (telling n c) w .versions)
+unfolding after fold
+one-owed w n (opens q f c k gs) = owes-none (w .versions) (w .versions) (λ r i. refl)
+one-owed w n (activates p k a b d) = owes-none (w .versions) (w .versions) (λ r i. refl)
+one-owed w n (deactivates p d) = owes-none (w .versions) (w .versions) (λ r i. refl)
+one-owed w n (submits p x d es) =
+    let f = w .opening .first .0 in
+    let m = length (w .versions) in
     record {
-      elsewhere = λ r i ne. notice-other r i c p x y d (v .versions) (λ z. ne (sym z));
-      one = ⊎-elim (λ (e : counts 1 (confirmedStatus c d) ≡ false). inl (own-unturned 1 p c p x y d (v .versions) e)) (λ (e : counts 2 (confirmedStatus c d) ≡ false). inr (own-unturned 2 p c p x y d (v .versions) e)) (noticed-once c d);
+      point = p;
+      elsewhere = λ r i ne. submit-other r i (newVersion f m p x d) (w .versions) (λ z. ne (sym z));
+      one = inr (own-uncounted 2 p f m p x d (w .versions) (submitted-once f d));
     }
-one-owed v (assigns a g d) = owes-none 0 (v .versions) (v .versions) (λ r i. refl)
-one-owed v (shows r g) = owes-none 0 (v .versions) (v .versions) (λ r i. refl)
-one-owed v (asks p x) = owes-none 0 (v .versions) (v .versions) (λ r i. refl)
-one-owed v (settles r d) = owes-none 0 (v .versions) (settledBy r (v .versions)) (λ q i. settle-own r (v .versions) q i)
+one-owed w n (notices p x y d) =
+    let c = w .opening .clearing .0 in
+    record {
+      point = p;
+      elsewhere = λ r i ne. notice-other r i c p x y d (w .versions) (λ z. ne (sym z));
+      one = ⊎-elim (λ (e : counts 1 (confirmedStatus c d) ≡ false). inl (own-unturned 1 p c p x y d (w .versions) e)) (λ (e : counts 2 (confirmedStatus c d) ≡ false). inr (own-unturned 2 p c p x y d (w .versions) e)) (noticed-once c d);
+    }
+one-owed w n (assigns a g d) = owes-none (w .versions) (w .versions) (λ r i. refl)
+one-owed w n (shows r g) = owes-none (w .versions) (w .versions) (λ r i. refl)
+one-owed w n (asks p x) = owes-none (w .versions) (w .versions) (λ r i. refl)
+one-owed w n (settles r d) = owes-none (w .versions) (settledBy r (w .versions)) (λ q i. settle-own r (w .versions) q i)
 
 -- ---- "the part is empty exactly when the number is not 0": an accepted show's part has Q figures, on a desk in any state
 
 pub show-part : (d : Desk) (s : Stores) (r g : ℕ) → step d (record { call = shows r g; stores = s }) .answer ≡ Accepted
-    → (length (step d (record { call = shows r g; stores = s }) .part) ≡ d .opening .quarters) × (1 ≤ d .opening .quarters)
+    → (length (step d (record { call = shows r g; stores = s }) .part) ≡ d .frame .opening .quarters) × (1 ≤ d .frame .opening .quarters)
 unfolding step decided refusalBy validDesk frameOk otherLengths
 show-part d s r g e =
     let l : Lent = record { call = shows r g; stores = s } in
     let P = accepted-passed d l e in
-    let Q = d .opening .quarters in
+    let Q = d .frame .opening .quarters in
     let valid : validDesk d ≡ true = not-false (validDesk d) (P .0) in
-    let ok = and-left (openingOk (d .opening)) _ (and-left (frameOk d) _ valid) in
-    let long : length (s .book) ≡ d .opening .book = eqb-true (length (s .book)) (d .opening .book) (not-false (eqb (length (s .book)) (d .opening .book)) (or-left _ _ (P .1 .1 .0))) in
+    let ok = and-left (openingOk (d .frame .opening)) _ (and-left (frameOk (d .frame)) _ valid) in
+    let long : length (s .book) ≡ d .frame .opening .book = eqb-true (length (s .book)) (d .frame .opening .book) (not-false (eqb (length (s .book)) (d .frame .opening .book)) (or-left _ _ (P .1 .1 .0))) in
     let fields = not-false (runOk r && groupOk g) (P .1 .1 .1 .0) in
     let inR = and-left (runOk r) _ fields in
     let fits = row-within Q r (groupRow g) (within-low 1 runs r inR) (within-high 1 runs r inR) (omega (arith, within-high 1 groups g (and-right (runOk r) _ fields))) in
     rw (passed-fine (lines d (told l)) P)
-    (length-part (s .book) (rowStart Q r (groupRow g)) Q (omega (arith, book-is (d .opening) ok)), quarters-in (d .opening) ok)
+    (length-part (s .book) (rowStart Q r (groupRow g)) Q (omega (arith, book-is (d .frame .opening) ok)), quarters-in (d .frame .opening) ok)

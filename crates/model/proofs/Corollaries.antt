@@ -8,7 +8,7 @@ use native.Mathlib.Omega.{arith}
 use lib.Dec.{eqb}
 use lib.IntN.{natAbs}
 use Rattle.quantity.specs.Limits.{points, runs, runRows, mostEnergy}
-use Rattle.quantity.specs.Lists.{all}
+use Rattle.quantity.specs.Lists.{all, fold}
 use Rattle.state.specs.Change.{submitted, noticed}
 use Rattle.state.specs.Desk.{isOpen, openDesk, versionsIn}
 use Rattle.state.specs.Valid.{validDesk}
@@ -21,7 +21,7 @@ use Rattle.model.specs.Call.{Call, opens, activates, deactivates, submit
 use Rattle.model.specs.Causes.{Rule, openingBy}
 use Rattle.model.specs.Demands.{Alike, Blind}
 use Rattle.model.specs.Log.{due}
-use Rattle.model.specs.Plain.{plainEnd, figure, pointsOf, groupsOf, versionsOf, energiesOf}
+use Rattle.model.specs.Plain.{plainEnd, figure, pointsOf, groupsOf, energiesOf, workedOut, after}
 use Rattle.model.specs.Step.{lines, statusAnswer, versionBy, granting, refusalBy, decided, step}
 use Rattle.model.specs.declared.Answer.{Answer}
 use Rattle.model.specs.declared.Answer.the-variants.{Refused}
@@ -32,7 +32,7 @@ use Rattle.model.specs.declared.Verdict.{Verdict}
 use Rattle.model.specs.declared.Verdict.the-variants.{Fine, Refuse}
 use Rattle.model.proofs.Ends.{small-figure}
 use Rattle.model.proofs.Figures.{figure-none}
-use Rattle.model.proofs.Fresh.{State, before, after}
+use Rattle.model.proofs.Fresh.{State, early, holding}
 use Rattle.model.proofs.Invariant.{Holds, holds-open, holds-valid}
 use Rattle.model.proofs.Main.{agree, steps}
 use Rattle.model.proofs.Points.{selected-none}
@@ -40,20 +40,20 @@ use Rattle.model.proofs.Rules.{not-refused, refused-among}
 
 -- where a chained list leaves the desks
 pub reached : (s : Stores) (l : List Lent) → Chained (fresh s) l → State (end (fresh s) l) (plainEnd [] (map told l))
-reached s l c = steps (fresh s) [] l (before refl refl) c .1
+reached s l c = steps (fresh s) [] l (early refl refl) c .1
 
 -- ---- "No figure exceeds 256 × 10^12 in size."
 
 state-small : (r : Running) (h : List Told) → State r h → (run k q : ℕ) → natAbs (figure h run k q) ≤ points * mostEnergy
-unfolding figure versionsOf all
-state-small r h (before a b) run k q =
-    rw b (omega (arith, ap natAbs (figure-none (pointsOf []) (groupsOf []) [] (energiesOf []) (λ x p. selected-none p [] refl x) run k q)))
-state-small r h (after H) run k q = small-figure (r .desk) (r .stores) h H run k q
+unfolding figure all workedOut after fold
+state-small r h (early a b) run k q =
+    rw b (omega (arith, ap natAbs (figure-none (pointsOf []) (groupsOf []) [] [] (λ x p. selected-none p [] refl x) run k q)))
+state-small r h (holding H) run k q = small-figure (r .desk) (r .stores) h H run k q
 
 pub figure-small : (s : Stores) (l : List Lent) → Chained (fresh s) l → (run k q : ℕ) → natAbs (figure (plainEnd [] (map told l)) run k q) ≤ 256 * 1000000000000
 figure-small s l c run k q = state-small (end (fresh s) l) (plainEnd [] (map told l)) (reached s l c) run k q
 
-pub book-small : (s : Stores) (l : List Lent) → Chained (fresh s) l → (run k q : ℕ) → 1 ≤ run → run ≤ runs → k < runRows → q < end (fresh s) l .desk .opening .quarters
+pub book-small : (s : Stores) (l : List Lent) → Chained (fresh s) l → (run k q : ℕ) → 1 ≤ run → run ≤ runs → k < runRows → q < end (fresh s) l .desk .frame .opening .quarters
     → natAbs (bookFigure (end (fresh s) l) run k q) ≤ 256 * 1000000000000
 book-small s l c run k q a b d e = rw (agree s l c .figures run k q a b d e) (figure-small s l c run k q)
 
@@ -83,7 +83,7 @@ abbrev other : Cause → Bool
 other c = not (eqb (causeNumber c) 1)
 
 -- on a valid, open desk no rule of cause 1 holds
-never-one : (d : Desk) (n : Lengths) (c : Call) → validDesk d ≡ true → isOpen (d .opening) ≡ true
+never-one : (d : Desk) (n : Lengths) (c : Call) → validDesk d ≡ true → isOpen (d .frame .opening) ≡ true
     → all (λ (r : Rule). other (r .cause) || not (r .holds)) (lines d (telling n c)) ≡ true
 unfolding all
 never-one d n (opens q f c k gs) v o = refl
@@ -106,11 +106,11 @@ opened-else {A} d s h x H e = go (refusalBy d (told x)) refl e
         let same : y ≡ NotOpen = cc in
         absurd (false≢true (refused-among other _ (never-one d (lengthsOf (x .stores)) (x .call) (holds-valid d s h H) (holds-open d s h H)) NotOpen (z ∙ ap Refuse same)))
 
-state-one : (r : Running) (h : List Told) (x : Lent) → State r h → step (r .desk) x .answer ≡ Refused NotOpen → isOpen (r .desk .opening) ≡ false
-state-one r h x (before a b) e = rw a refl
-state-one r h x (after H) e = opened-else (r .desk) (r .stores) h x H e
+state-one : (r : Running) (h : List Told) (x : Lent) → State r h → step (r .desk) x .answer ≡ Refused NotOpen → isOpen (r .desk .frame .opening) ≡ false
+state-one r h x (early a b) e = rw a refl
+state-one r h x (holding H) e = opened-else (r .desk) (r .stores) h x H e
 
-pub only-not-open : (s : Stores) (l : List Lent) (x : Lent) → Chained (fresh s) l → step (end (fresh s) l .desk) x .answer ≡ Refused NotOpen → isOpen (end (fresh s) l .desk .opening) ≡ false
+pub only-not-open : (s : Stores) (l : List Lent) (x : Lent) → Chained (fresh s) l → step (end (fresh s) l .desk) x .answer ≡ Refused NotOpen → isOpen (end (fresh s) l .desk .frame .opening) ≡ false
 only-not-open s l x c e = state-one (end (fresh s) l) (plainEnd [] (map told l)) x (reached s l c) e
 
 -- ---- "Answer numbers, statuses and log rows never depend on what the stores hold"
@@ -122,7 +122,7 @@ granted-blind d (deactivates p day) s t e = record { answer = refl; desk = refl;
 granted-blind d (submits p x day es) s t e =
     record { answer = refl; desk = refl; row = due (versionsIn d) (submitted (versionBy d p x day) (versionsIn d)) p day; log = refl; otherLog = refl }
 granted-blind d (notices p x y day) s t e =
-    record { answer = refl; desk = refl; row = due (versionsIn d) (noticed (d .opening .clearing .0) p x y day (versionsIn d)) p day; log = refl; otherLog = refl }
+    record { answer = refl; desk = refl; row = due (versionsIn d) (noticed (d .frame .opening .clearing .0) p x y day (versionsIn d)) p day; log = refl; otherLog = refl }
 granted-blind d (assigns a g day) s t e = record { answer = refl; desk = refl; row = Nothing; log = refl; otherLog = refl }
 granted-blind d (shows r g) s t e = record { answer = refl; desk = refl; row = Nothing; log = refl; otherLog = refl }
 granted-blind d (asks p x) s t e = record { answer = refl; desk = refl; row = Nothing; log = refl; otherLog = refl }

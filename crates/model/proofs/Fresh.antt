@@ -20,7 +20,7 @@ use Rattle.model.specs.Agreement.{Running, next, fresh, Agree}
 use Rattle.model.specs.Call.{Call, opens, activates, deactivates, submits, notices, assigns, shows, asks, settles, Stores, lengthsOf, Lent, Told, told, Reply}
 use Rattle.model.specs.Causes.{orIf, firstOf, openingBy, opensOk, refusal}
 use Rattle.model.specs.Log.{due, addRow, logNumbers}
-use Rattle.model.specs.Plain.{openingOf, dayOf, pointsOf, groupsOf, versionsOf, energiesOf, logOf, settledOf, viewIn, answered, joined, plainReply, plainNext}
+use Rattle.model.specs.Plain.{viewIn, answered, joined, plainReply, plainNext, workedOut, after}
 use Rattle.model.specs.Step.{withBook, refusalBy, decided, step, replyOf}
 use Rattle.model.specs.declared.Due.{Due}
 use Rattle.model.specs.declared.Due.the-variants.{Nothing}
@@ -33,8 +33,8 @@ use Rattle.model.proofs.Points.{selected-none}
 
 -- the desk before its opening, and after it
 pub data State (r : Running) (h : List Told) : Type 0 where
-  before : r .desk ≡ freshDesk → h ≡ [] → State r h
-  after : Holds (r .desk) (r .stores) h → State r h
+  early : r .desk ≡ freshDesk → h ≡ [] → State r h
+  holding : Holds (r .desk) (r .stores) h → State r h
 
 zero-word : word (pos 0) ≡ 0
 unfolding word
@@ -43,15 +43,14 @@ zero-word = refl
 -- "Book all 0; all points free, no versions, no log rows used; values and log untouched."
 module _ (q f c k : ℕ) (gs : List ℕ) (st : Stores) (ok : opensOk (openingBy q f c k (lengthsOf st)) gs ≡ true) where
   pub opened-holds : Holds (openDesk (openingBy q f c k (lengthsOf st)) gs) (withBook st (replicate (bookRows * q) 0)) (record { call = opens q f c k gs; lengths = lengthsOf st } ∷ [])
-  unfolding opensOk all viewIn openingOf dayOf pointsOf groupsOf versionsOf energiesOf logOf settledOf logNumbers
+  unfolding opensOk all viewIn logNumbers workedOut after fold
   opened-holds =
       let o = openingBy q f c k (lengthsOf st) in
       let rest = and-right (openingOk o) _ ok in
-      let quiet : due [] [] 0 0 ≡ Nothing = due-same [] [] 0 0 (λ r. refl) in
       record {
         table = record { size = refl; count = omega arith };
-        view = ap (λ (x : Due). record { opening = o; day = 0; points = replicate 256 freePoint; versions = []; used = length (addRow x []); settled = record { first = false; second = false } }) (sym quiet);
-        groups = refl;
+        used = refl;
+        works = refl;
         kept =
             record {
               framed = record { opening = and-left (openingOk o) _ ok; day = refl; used = omega arith };
@@ -66,7 +65,7 @@ module _ (q f c k : ℕ) (gs : List ℕ) (st : Stores) (ok : opensOk (openingBy 
                   };
               valuesLong = refl;
               logLong = refl;
-              logged = ap (λ (x : Due). logNumbers (addRow x [])) (sym quiet);
+              logged = refl;
             };
       }
 
@@ -75,27 +74,27 @@ Step : Stores → Lent → Type 0
 Step s l = (replyOf (step freshDesk l) ≡ plainReply [] (told l)) × State (next (fresh s) l) (plainNext [] (told l))
 
 fresh-opens : (s st : Stores) (q f c k : ℕ) (gs : List ℕ) → Step s (record { call = opens q f c k gs; stores = st })
-unfolding Step step decided next plainReply plainNext answered joined refusalBy refusal firstOf fold orIf viewIn openingOf
+unfolding Step step decided next plainReply plainNext answered joined refusalBy refusal firstOf fold orIf viewIn workedOut after
 fresh-opens s st q f c k gs = go (opensOk (openingBy q f c k (lengthsOf st)) gs) refl
   where
     go : (t : Bool) → opensOk (openingBy q f c k (lengthsOf st)) gs ≡ t → Step s (record { call = opens q f c k gs; stores = st })
-    go false e = rw e (refl, before refl refl)
+    go false e = rw e (refl, early refl refl)
     go true e =
         let o = openingBy q f c k (lengthsOf st) in
         let H = opened-holds q f c k gs st e in
-        rw e (refl, after (rw (left-every o s (withBook st (replicate (bookRows * q) 0)) refl (H .kept .booked .size ∙ sym (book-is o (H .kept .framed .opening))) refl) H))
+        rw e (refl, holding (rw (left-every o s (withBook st (replicate (bookRows * q) 0)) refl (H .kept .booked .size ∙ sym (book-is o (H .kept .framed .opening))) refl) H))
 
 fresh-base : (s st : Stores) (c : Call) → Step s (record { call = c; stores = st })
-unfolding Step step decided next plainReply plainNext answered joined refusalBy refusal firstOf fold orIf viewIn openingOf validDesk frameOk openingOk
+unfolding Step step decided next plainReply plainNext answered joined refusalBy refusal firstOf fold orIf viewIn validDesk frameOk openingOk workedOut after
 fresh-base s st (opens q f c k gs) = fresh-opens s st q f c k gs
-fresh-base s st (activates p k a b e) = (refl, before refl refl)
-fresh-base s st (deactivates p e) = (refl, before refl refl)
-fresh-base s st (submits p x e es) = (refl, before refl refl)
-fresh-base s st (notices p x y e) = (refl, before refl refl)
-fresh-base s st (assigns a g e) = (refl, before refl refl)
-fresh-base s st (shows r g) = (refl, before refl refl)
-fresh-base s st (asks p x) = (refl, before refl refl)
-fresh-base s st (settles r e) = (refl, before refl refl)
+fresh-base s st (activates p k a b e) = (refl, early refl refl)
+fresh-base s st (deactivates p e) = (refl, early refl refl)
+fresh-base s st (submits p x e es) = (refl, early refl refl)
+fresh-base s st (notices p x y e) = (refl, early refl refl)
+fresh-base s st (assigns a g e) = (refl, early refl refl)
+fresh-base s st (shows r g) = (refl, early refl refl)
+fresh-base s st (asks p x) = (refl, early refl refl)
+fresh-base s st (settles r e) = (refl, early refl refl)
 
 -- one call on an unopened desk
 pub fresh-step : (r : Running) (h : List Told) (l : Lent) → r .desk ≡ freshDesk → h ≡ [] → (replyOf (step (r .desk) l) ≡ plainReply h (told l)) × State (next r l) (plainNext h (told l))
@@ -107,7 +106,7 @@ fresh-step r h l a b =
 
 -- an unopened desk has nothing, and so has the plain one
 none-yet : (given plain : List Reply) (s : Stores) → given ≡ plain → Agree given (fresh s) plain []
-unfolding versionsOf openingOf logOf logNumbers
+unfolding logNumbers workedOut after fold
 none-yet given plain s e =
     record {
       answers = e;

@@ -14,14 +14,13 @@ use Rattle.state.specs.Valid.{openingOk, frameOk, validDesk}
 use Rattle.state.specs.declared.Desk.{Desk}
 use Rattle.state.specs.declared.Opening.{Opening}
 use Rattle.model.specs.Agreement.{Running, Own, left, next, Chained, fresh, lend}
-use Rattle.model.specs.Call.{Call, opens, activates, deactivates, submits, notices, assigns, shows, asks, settles, takes, Taken, everyStore, theBook, Stores, Lengths, lengthsOf, Lent, Told, told, telling}
-use Rattle.model.specs.Causes.{orIf, firstOf, openingBy, opensOk, refusal}
-use Rattle.model.specs.Plain.{sets, openingOf, viewIn, joined, plainNext}
+use Rattle.model.specs.Call.{Call, opens, activates, deactivates, submits, notices, assigns, shows, asks, settles, Taken, everyStore, theBook, Stores, Lengths, lengthsOf, Lent, Told, told, telling}
+use Rattle.model.specs.Causes.{takes, orIf, firstOf, openingBy, opensOk, refusal}
+use Rattle.model.specs.Plain.{Worked, openingOf, viewIn, joined, plainNext, workedOut, after}
 use Rattle.model.specs.Step.{withBook, refusalBy, decided, step}
-use Rattle.model.specs.View.{View}
 use Rattle.model.specs.declared.Verdict.{Verdict}
 use Rattle.model.specs.declared.Verdict.the-variants.{Fine, Refuse}
-use Rattle.model.proofs.Fresh.{State, before, after}
+use Rattle.model.proofs.Fresh.{State, early, holding}
 use Rattle.model.proofs.Invariant.{Holds, book-is, plain-open}
 use Rattle.model.proofs.Lending.{left-every}
 use Rattle.model.proofs.Main.{one-step}
@@ -37,21 +36,21 @@ lent-own o t s = record { values = λ a b e. refl; book = λ a b e. refl; log = 
 pub lend-chained : (r : Running) (l : List Call) → Chained r (lend r l)
 unfolding Chained lend
 lend-chained r [] = tt
-lend-chained r (c ∷ l) = (lent-own (r .desk .opening) (takes c) (r .stores), lend-chained (next r (ownLent r c)) l)
+lend-chained r (c ∷ l) = (lent-own (r .desk .frame .opening) (takes c) (r .stores), lend-chained (next r (ownLent r c)) l)
 
 -- a call that sets no opening, refused or not
-unset : (v : Verdict) (h : List Told) (t : Told) → sets (t .call) .opening (t .lengths) (openingOf h) ≡ openingOf h → openingOf (joined v h t) ≡ openingOf h
-unfolding joined openingOf
+unset : (v : Verdict) (h : List Told) (t : Told) → after t (workedOut h) .opening ≡ openingOf h → openingOf (joined v h t) ≡ openingOf h
+unfolding joined workedOut
 unset Fine h t e = e
 unset (Refuse x) h t e = refl
 
-unset-next : (h : List Told) (t : Told) → sets (t .call) .opening (t .lengths) (openingOf h) ≡ openingOf h → openingOf (plainNext h t) ≡ openingOf h
+unset-next : (h : List Told) (t : Told) → after t (workedOut h) .opening ≡ openingOf h → openingOf (plainNext h t) ≡ openingOf h
 unfolding plainNext
 unset-next h t e = unset (refusal (viewIn h) t) h t e
 
 -- an opening stays
 pub opening-stays : (h : List Told) (n : Lengths) (c : Call) → isOpen (openingOf h) ≡ true → openingOf (plainNext h (telling n c)) ≡ openingOf h
-unfolding plainNext joined refusal firstOf fold orIf viewIn
+unfolding plainNext joined refusal firstOf fold orIf viewIn after
 opening-stays h n (opens q f c k gs) e = rw e
 opening-stays h n (activates p k a b d) e = unset-next h (telling n (activates p k a b d)) refl
 opening-stays h n (deactivates p d) e = unset-next h (telling n (deactivates p d)) refl
@@ -67,11 +66,11 @@ opening-lengths : Opening → Lengths
 opening-lengths o = record { values = o .values; book = o .book; log = o .log }
 
 holds-lengths : (d : Desk) (s : Stores) (h : List Told) → Holds d s h → lengthsOf s ≡ opening-lengths (openingOf h)
-unfolding opening-lengths viewIn
+unfolding opening-lengths
 holds-lengths d s h H =
     let K = H .kept in
-    (λ i. record { values = K .valuesLong i; book = (K .booked .size ∙ sym (book-is (d .opening) (K .framed .opening))) i; log = K .logLong i })
-    ∙ ap (λ (v : View). opening-lengths (v .opening)) (H .view)
+    (λ i. record { values = K .valuesLong i; book = (K .booked .size ∙ sym (book-is (d .frame .opening) (K .framed .opening))) i; log = K .logLong i })
+    ∙ ap (λ (w : Worked). opening-lengths (w .opening)) (H .works)
 
 -- a store that comes back as it was lent
 left-self : (o : Opening) (t : Taken) (s : Stores) → left o t s s ≡ s
@@ -97,21 +96,21 @@ fresh-sized s (opens q f c k gs) = go (opensOk (openingBy q f c k (lengthsOf s))
         let a = withBook s (replicate (bookRows * q) 0) in
         let size : length (a .book) ≡ o .book = length-replicate (bookRows * q) 0 ∙ sym (book-is o (and-left (openingOk o) _ e)) in
         rw e (ap lengthsOf (left-every o s a refl size refl) ∙ ap (λ (m : ℕ). record { values = o .values; book = m; log = o .log }) size)
-    go false e = rw e (ap lengthsOf (left-self (freshDesk .opening) everyStore s))
+    go false e = rw e (ap lengthsOf (left-self (freshDesk .frame .opening) everyStore s))
 fresh-sized s (activates p k a b d) = refl
 fresh-sized s (deactivates p d) = refl
-fresh-sized s (submits p x d es) = ap lengthsOf (left-self (freshDesk .opening) everyStore s)
-fresh-sized s (notices p x y d) = ap lengthsOf (left-self (freshDesk .opening) everyStore s)
-fresh-sized s (assigns a g d) = ap lengthsOf (left-self (freshDesk .opening) theBook s)
-fresh-sized s (shows r g) = ap lengthsOf (left-self (freshDesk .opening) theBook s)
+fresh-sized s (submits p x d es) = ap lengthsOf (left-self (freshDesk .frame .opening) everyStore s)
+fresh-sized s (notices p x y d) = ap lengthsOf (left-self (freshDesk .frame .opening) everyStore s)
+fresh-sized s (assigns a g d) = ap lengthsOf (left-self (freshDesk .frame .opening) theBook s)
+fresh-sized s (shows r g) = ap lengthsOf (left-self (freshDesk .frame .opening) theBook s)
 fresh-sized s (asks p x) = refl
 fresh-sized s (settles r d) = refl
 
 -- and after any call, from a fresh desk on
 sized : (r : Running) (h : List Told) (c : Call) → State r h → lengthsOf (next r (ownLent r c) .stores) ≡ lengthsOf (r .stores)
-unfolding openingOf
-sized r h c (before a b) = rw a (fresh-sized (r .stores) c)
-sized r h c (after H) = go (one-step r h (ownLent r c) (after H) (lent-own (r .desk .opening) (takes c) (r .stores)) .1)
+unfolding workedOut after fold
+sized r h c (early a b) = rw a (fresh-sized (r .stores) c)
+sized r h c (holding H) = go (one-step r h (ownLent r c) (holding H) (lent-own (r .desk .frame .opening) (takes c) (r .stores)) .1)
   where
     opened : isOpen (openingOf h) ≡ true
     opened = plain-open (r .desk) (r .stores) h H
@@ -120,17 +119,17 @@ sized r h c (after H) = go (one-step r h (ownLent r c) (after H) (lent-own (r .d
     stays = opening-stays h (lengthsOf (r .stores)) c opened
 
     go : State (next r (ownLent r c)) (plainNext h (told (ownLent r c))) → lengthsOf (next r (ownLent r c) .stores) ≡ lengthsOf (r .stores)
-    go (before a b) = absurd (true≢false (sym opened ∙ ap isOpen (sym stays ∙ ap openingOf b)))
-    go (after K) = holds-lengths (next r (ownLent r c) .desk) (next r (ownLent r c) .stores) (plainNext h (told (ownLent r c))) K ∙ ap opening-lengths stays ∙ sym (holds-lengths (r .desk) (r .stores) h H)
+    go (early a b) = absurd (true≢false (sym opened ∙ ap isOpen (sym stays ∙ ap openingOf b)))
+    go (holding K) = holds-lengths (next r (ownLent r c) .desk) (next r (ownLent r c) .stores) (plainNext h (told (ownLent r c))) K ∙ ap opening-lengths stays ∙ sym (holds-lengths (r .desk) (r .stores) h H)
 
 -- so the plain desk is told the calls with the lengths of the stores
 told-as : (r : Running) (h : List Told) (n : Lengths) → State r h → lengthsOf (r .stores) ≡ n → (l : List Call) → map told (lend r l) ≡ map (telling n) l
 unfolding lend
 told-as r h n S e [] = refl
 told-as r h n S e (c ∷ l) =
-    let step = one-step r h (ownLent r c) S (lent-own (r .desk .opening) (takes c) (r .stores)) in
+    let step = one-step r h (ownLent r c) S (lent-own (r .desk .frame .opening) (takes c) (r .stores)) in
     let rest = told-as (next r (ownLent r c)) (plainNext h (told (ownLent r c))) n (step .1) (sized r h c S ∙ e) l in
     λ i. telling (e i) c ∷ rest i
 
 pub lend-told : (s : Stores) (l : List Call) → map told (lend (fresh s) l) ≡ map (telling (lengthsOf s)) l
-lend-told s l = told-as (fresh s) [] (lengthsOf s) (before refl refl) refl l
+lend-told s l = told-as (fresh s) [] (lengthsOf s) (early refl refl) refl l

@@ -17,6 +17,7 @@ use Rattle.state.specs.declared.Selection.{Selection}
 use Rattle.state.specs.declared.Selection.the-variants.{None, Selected}
 use Rattle.state.specs.declared.VersionRecord.{VersionRecord}
 use Rattle.model.specs.Causes.{logFull}
+use Rattle.model.specs.Laws.{SameRow}
 use Rattle.model.specs.Log.{sameRow, differ, logRow, due, addRow, logWords, logNumbers, logged, usedAfter}
 use Rattle.model.specs.declared.Due.{Due}
 use Rattle.model.specs.declared.Due.the-variants.{Nothing, Row}
@@ -29,16 +30,14 @@ differ-same None = refl
 differ-same (Selected r) = rw (eq-eqb (r .at) (r .at) refl, eq-eqb (r .version .0) (r .version .0) refl)
 
 -- what is selected as before is the same row
-pub differ-not : (o n : Selection) → differ o n ≡ false → o ≡ n
+pub differ-not : (o n : Selection) → differ o n ≡ false → SameRow o n
 unfolding differ
-differ-not None None e = refl
+differ-not None None e = tt
 differ-not None (Selected s) e = absurd (true≢false e)
 differ-not (Selected r) None e = absurd (true≢false e)
 differ-not (Selected r) (Selected s) e =
     let same : sameRow r s ≡ true = not-false (sameRow r s) e in
-    let at : r .at ≡ s .at = eqb-true (r .at) (s .at) (and-left (eqb (r .at) (s .at)) _ same) in
-    let no : r .version .0 ≡ s .version .0 = eqb-true (r .version .0) (s .version .0) (and-right (eqb (r .at) (s .at)) _ same) in
-    λ i. Selected (record { at = at i; version = record { 0 = no i } })
+    (eqb-true (r .at) (s .at) (and-left (eqb (r .at) (s .at)) _ same), eqb-true (r .version .0) (s .version .0) (and-right (eqb (r .at) (s .at)) _ same))
 
 no-row : {A : Type 0} {r : LogRow} → _≡_ {A = Due} (Row r) Nothing → A
 no-row e = let z : _≡_ {A = ℕ} 0 1 = cc in absurd (omega arith)
@@ -52,12 +51,12 @@ unfolding due
 due-same vs ws p d e = rw (e 1, e 2, differ-same (own 1 p vs), differ-same (own 2 p vs))
 
 -- and where no row is due, both stay: "When run 1's selection or run 2's own changes, the log gains a row"
-pub due-nothing : (vs ws : List VersionRecord) (p d : ℕ) → due vs ws p d ≡ Nothing → (own 1 p vs ≡ own 1 p ws) × (own 2 p vs ≡ own 2 p ws)
+pub due-nothing : (vs ws : List VersionRecord) (p d : ℕ) → due vs ws p d ≡ Nothing → SameRow (own 1 p vs) (own 1 p ws) × SameRow (own 2 p vs) (own 2 p ws)
 unfolding due
 due-nothing vs ws p d = go (differ (own 1 p vs) (own 1 p ws)) (differ (own 2 p vs) (own 2 p ws)) refl refl
   where
     go : (a b : Bool) → differ (own 1 p vs) (own 1 p ws) ≡ a → differ (own 2 p vs) (own 2 p ws) ≡ b
-        → cond a (Row (logRow d p 1 (own 1 p ws))) (cond b (Row (logRow d p 2 (own 2 p ws))) Nothing) ≡ Nothing → (own 1 p vs ≡ own 1 p ws) × (own 2 p vs ≡ own 2 p ws)
+        → cond a (Row (logRow d p 1 (own 1 p ws))) (cond b (Row (logRow d p 2 (own 2 p ws))) Nothing) ≡ Nothing → SameRow (own 1 p vs) (own 1 p ws) × SameRow (own 2 p vs) (own 2 p ws)
     go true b x y e = no-row e
     go false true x y e = no-row e
     go false false x y e = (differ-not (own 1 p vs) (own 1 p ws) x, differ-not (own 2 p vs) (own 2 p ws) y)

@@ -2,8 +2,8 @@
 use mathlib.Core.Path.{_≡_, refl}
 use mathlib.Core.List.{List, [], _∷_, map}
 use Rattle.model.specs.Agreement.{Running, Own, next, Chained, replies, end, fresh, Agree, Agreement}
-use Rattle.model.specs.Call.{Call, opens, activates, deactivates, submits, notices, assigns, shows, asks, settles, takes, Stores, lengthsOf, Lent, Told, told, Reply}
-use Rattle.model.specs.Causes.{rules, refusal}
+use Rattle.model.specs.Call.{Call, opens, activates, deactivates, submits, notices, assigns, shows, asks, settles, Stores, lengthsOf, Lent, Told, told, Reply}
+use Rattle.model.specs.Causes.{takes, rules, refusal}
 use Rattle.model.specs.Laws.{Passed}
 use Rattle.model.specs.Plain.{viewIn, answered, joined, plainReply, plainNext, plainReplies, plainEnd}
 use Rattle.model.specs.Step.{refusalBy, decided, step, replyOf}
@@ -12,8 +12,8 @@ use Rattle.model.specs.declared.Verdict.{Verdict}
 use Rattle.model.specs.declared.Verdict.the-variants.{Fine, Refuse}
 use Rattle.model.proofs.Assign.{assign-granted}
 use Rattle.model.proofs.Ends.{holds-agree}
-use Rattle.model.proofs.Fresh.{State, before, after, open-granted, fresh-step, fresh-agree}
-use Rattle.model.proofs.Invariant.{Holds, Done, Granted, same-refusal, holds-open}
+use Rattle.model.proofs.Fresh.{State, early, holding, open-granted, fresh-step, fresh-agree}
+use Rattle.model.proofs.Invariant.{Holds, Done, Granted, same-refusal, holds-open, holds-view}
 use Rattle.model.proofs.Lending.{left-own}
 use Rattle.model.proofs.Notice.{notice-granted}
 use Rattle.model.proofs.Points.{activate-granted, deactivate-granted}
@@ -38,10 +38,10 @@ every (settles r d) = settle-granted r d
 -- what the plain desk does not refuse has passed every rule
 pub fine : (d : Desk) (s : Stores) (h : List Told) (l : Lent) → Holds d s h → refusal (viewIn h) (told l) ≡ Fine → Passed (rules (viewOf d) (lengthsOf (l .stores)) (l .call))
 unfolding refusal
-fine d s h l H e = passed (rules (viewOf d) (lengthsOf (l .stores)) (l .call)) (rw (H .view) e)
+fine d s h l H e = passed (rules (viewOf d) (lengthsOf (l .stores)) (l .call)) (rw (holds-view d s h H) e)
 
 -- one step of an opened desk
-opened-step : (d : Desk) (s : Stores) (h : List Told) (l : Lent) → Holds d s h → Own (d .opening) (takes (l .call)) s (l .stores)
+opened-step : (d : Desk) (s : Stores) (h : List Told) (l : Lent) → Holds d s h → Own (d .frame .opening) (takes (l .call)) s (l .stores)
     → (replyOf (step d l) ≡ plainReply h (told l)) × State (next (record { desk = d; stores = s }) l) (plainNext h (told l))
 unfolding step decided next plainReply plainNext answered joined
 opened-step d s h l H o = go (refusal (viewIn h) (told l)) refl
@@ -50,15 +50,15 @@ opened-step d s h l H o = go (refusal (viewIn h) (told l)) refl
     same = same-refusal d s h H (told l)
 
     go : (x : Verdict) → refusal (viewIn h) (told l) ≡ x → (replyOf (step d l) ≡ plainReply h (told l)) × State (next (record { desk = d; stores = s }) l) (plainNext h (told l))
-    go (Refuse c) e = rw (same, e) (refl, after (rw (left-own (d .opening) s (l .stores) (holds-open d s h H) (takes (l .call)) o) H))
+    go (Refuse c) e = rw (same, e) (refl, holding (rw (left-own (d .frame .opening) s (l .stores) (holds-open d s h H) (takes (l .call)) o) H))
     go Fine e =
         let D : Done d s h (l .call) (l .stores) = every (l .call) d s h (l .stores) H o (fine d s h l H e) in
-        rw (same, e) (D .reply, after (D .holds))
+        rw (same, e) (D .reply, holding (D .holds))
 
-pub one-step : (r : Running) (h : List Told) (l : Lent) → State r h → Own (r .desk .opening) (takes (l .call)) (r .stores) (l .stores)
+pub one-step : (r : Running) (h : List Told) (l : Lent) → State r h → Own (r .desk .frame .opening) (takes (l .call)) (r .stores) (l .stores)
     → (replyOf (step (r .desk) l) ≡ plainReply h (told l)) × State (next r l) (plainNext h (told l))
-one-step r h l (before a b) o = fresh-step r h l a b
-one-step r h l (after H) o = opened-step (r .desk) (r .stores) h l H o
+one-step r h l (early a b) o = fresh-step r h l a b
+one-step r h l (holding H) o = opened-step (r .desk) (r .stores) h l H o
 
 -- every list
 pub steps : (r : Running) (h : List Told) (l : List Lent) → State r h → Chained r l
@@ -71,11 +71,11 @@ steps r h (x ∷ l) S c =
     ((λ i. one .0 i ∷ rest .0 i), rest .1)
 
 state-agree : (given plain : List Reply) (r : Running) (h : List Told) → given ≡ plain → State r h → Agree given r plain h
-state-agree given plain r h e (before a b) = fresh-agree given plain r h e a b
-state-agree given plain r h e (after H) = holds-agree given plain r h e H
+state-agree given plain r h e (early a b) = fresh-agree given plain r h e a b
+state-agree given plain r h e (holding H) = holds-agree given plain r h e H
 
 -- demand 3
 pub agree : Agreement
 agree s l c =
-    let whole = steps (fresh s) [] l (before refl refl) c in
+    let whole = steps (fresh s) [] l (early refl refl) c in
     state-agree (replies (fresh s) l) (plainReplies [] (map told l)) (end (fresh s) l) (plainEnd [] (map told l)) (whole .0) (whole .1)

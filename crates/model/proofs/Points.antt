@@ -9,10 +9,10 @@ use borrow.Author.Tests.{eqb-true, eqb-false, not-false, not-true}
 use lib.Dec.{eqb}
 use lib.ListN.{length, length-set}
 use Rattle.quantity.specs.Limits.{points, pointOk, dayOk}
-use Rattle.quantity.specs.Lists.{all}
+use Rattle.quantity.specs.Lists.{all, fold}
 use Rattle.quantity.proofs.Lists.{all-in, all-set, all-mono, any-false}
 use Rattle.quantity.proofs.Tests.{and-left, and-right, within-low, within-high}
-use Rattle.state.specs.Desk.{versionsIn, onDay, withPoints}
+use Rattle.state.specs.Desk.{versionsIn, deskWith, theDay, thePoints}
 use Rattle.state.specs.Point.{freePoint, activePoint, pointAt, withPoint, isActive, seriesOk}
 use Rattle.state.specs.Selection.{selected, isCounted, own}
 use Rattle.state.specs.Valid.{pointRecordOk}
@@ -23,12 +23,10 @@ use Rattle.state.specs.declared.Selection.{Selection}
 use Rattle.state.specs.declared.Selection.the-variants.{None}
 use Rattle.state.specs.declared.VersionRecord.{VersionRecord}
 use Rattle.model.specs.Call.{activates, deactivates, Stores, lengthsOf, Told}
-use Rattle.model.specs.Plain.{energiesOf, logOf}
-use Rattle.model.specs.View.{viewOf}
+use Rattle.model.specs.Plain.{after, energiesOf, logOf}
 use Rattle.model.proofs.Books.{booked-same}
 use Rattle.model.proofs.Figures.{figure-point}
-use Rattle.model.proofs.Invariant.{Holds, Kept, Granted, tenanted, finish-quiet}
-use Rattle.model.proofs.Logs.{due-same}
+use Rattle.model.proofs.Invariant.{Holds, Kept, Granted, tenanted, worksOut, finish}
 use Rattle.model.proofs.Selections.{best-none}
 use Rattle.state.proofs.PointTable.{put-same, put-other}
 
@@ -86,7 +84,7 @@ module _ (ps : List PointRecord) (p : ℕ) (r : PointRecord) where
 -- the invariant with another record at a point that has no versions
 module _ (d : Desk) (s : Stores) (h : List Told) (H : Holds d s h) (p e : ℕ) (r : PointRecord) (good : pointRecordOk r ≡ true) (day : dayOk e ≡ true)
     (none : empty p (versionsIn d)) (homes : all (tenanted (withPoint (d .points) p r)) (versionsIn d) ≡ true) where
-  put-kept : Kept (viewOf (onDay (withPoints d (withPoint (d .points) p r)) e)) (d .groups) (energiesOf h) (logOf h) s
+  put-kept : Kept (worksOut (deskWith (deskWith d (thePoints (withPoint (d .points) p r))) (theDay e)) (energiesOf h) (logOf h)) s
   put-kept =
       let K = H .kept in
       record {
@@ -95,13 +93,14 @@ module _ (d : Desk) (s : Stores) (h : List Told) (H : Holds d s h) (p e : ℕ) (
         pointed = record { each = put-each (d .points) p r pointRecordOk (K .pointed .each) good; size = put-length (d .points) p r ∙ K .pointed .size };
         versioned = record { count = K .versioned .count; rows = K .versioned .rows; each = K .versioned .each; homes = homes };
         stored = K .stored;
-        booked = booked-same (d .opening .quarters) (s .book) _ _ (λ run k j _ _ _ _. figure-point (d .points) (d .groups) (versionsIn d) (energiesOf h) p r (selected-none p (versionsIn d) none) run k j) (K .booked);
+        booked = booked-same (d .frame .opening .quarters) (s .book) _ _ (λ run k j _ _ _ _. figure-point (d .points) (d .frame .groups) (versionsIn d) (energiesOf h) p r (selected-none p (versionsIn d) none) run k j) (K .booked);
         valuesLong = K .valuesLong;
         logLong = K .logLong;
         logged = K .logged;
       }
 
 pub activate-granted : (p k a b e : ℕ) → Granted (activates p k a b e)
+unfolding after fold
 activate-granted p k a b e d s h st H o P =
     let fields = not-false (pointOk p && (dayOk e && seriesOk k a b)) (P .1 .0) in
     let inP = and-left (pointOk p) _ fields in
@@ -112,12 +111,12 @@ activate-granted p k a b e d s h st H o P =
     record {
       reply = refl;
       holds =
-          finish-quiet d s h H (record { call = activates p k a b e; lengths = lengthsOf st }) (onDay (withPoints d (withPoint (d .points) p (activePoint k a b e))) e) s (H .table)
-          (due-same (versionsIn d) (versionsIn d) 0 e (λ r. refl)) refl refl
+          finish d s h H (record { call = activates p k a b e; lengths = lengthsOf st }) (deskWith (deskWith d (thePoints (withPoint (d .points) p (activePoint k a b e)))) (theDay e)) s (H .table) (H .used) refl
           (put-kept d s h H p e (activePoint k a b e) rest (and-left (dayOk e) _ rest) none homes);
     }
 
 pub deactivate-granted : (p e : ℕ) → Granted (deactivates p e)
+unfolding after fold
 deactivate-granted p e d s h st H o P =
     let fields = not-false (pointOk p && dayOk e) (P .1 .0) in
     let K = H .kept in
@@ -126,7 +125,6 @@ deactivate-granted p e d s h st H o P =
     record {
       reply = refl;
       holds =
-          finish-quiet d s h H (record { call = deactivates p e; lengths = lengthsOf st }) (onDay (withPoints d (withPoint (d .points) p freePoint)) e) s (H .table)
-          (due-same (versionsIn d) (versionsIn d) 0 e (λ r. refl)) refl refl
+          finish d s h H (record { call = deactivates p e; lengths = lengthsOf st }) (deskWith (deskWith d (thePoints (withPoint (d .points) p freePoint))) (theDay e)) s (H .table) (H .used) refl
           (put-kept d s h H p e freePoint refl (and-right (pointOk p) _ fields) none homes);
     }

@@ -9,39 +9,37 @@ use lib.IntN.{ℤ, pos}
 use lib.ListN.{length, getD, length-map, List·getD-map}
 use lib.Seq.{ext-getD}
 use Rattle.quantity.specs.Limits.{runs, groups, runOk, groupOk}
+use Rattle.quantity.specs.Lists.{fold}
 use Rattle.quantity.specs.Word.{signed}
 use Rattle.quantity.proofs.Tests.{and-left, and-right, within-low, within-high}
 use Rattle.book.specs.Place.{groupRow, rowStart}
 use Rattle.book.specs.Row.{part}
 use Rattle.book.proofs.Places.{row-within}
 use Rattle.book.proofs.Rows.{length-part, part-at}
-use Rattle.state.specs.Desk.{versionsIn}
 use Rattle.state.specs.Version.{held}
 use Rattle.state.specs.declared.Desk.{Desk}
 use Rattle.model.specs.Call.{shows, asks, theBook, Stores, lengthsOf, Told, Reply}
-use Rattle.model.specs.Plain.{figure, tab, plainly, viewIn}
+use Rattle.model.specs.Plain.{Worked, after, figure, tab, plainly}
 use Rattle.model.specs.Step.{statusAnswer}
-use Rattle.model.specs.View.{View}
 use Rattle.model.specs.declared.Answer.the-variants.{Accepted}
 use Rattle.model.proofs.Ends.{read-figure}
-use Rattle.model.proofs.Invariant.{Holds, Granted, finish-quiet, holds-open}
+use Rattle.model.proofs.Invariant.{Holds, Granted, finish, holds-open}
 use Rattle.model.proofs.Lending.{book-own, left-own}
 use Rattle.model.proofs.Lists.{length-tab, tab-at}
-use Rattle.model.proofs.Logs.{due-same}
 
 -- "show 0 and its group's Q figures": the part of the book, read as figures
 module _ (d : Desk) (s : Stores) (h : List Told) (H : Holds d s h) (r g : ℕ) (r1 : 1 ≤ r) (r2 : r ≤ runs) (g2 : g ≤ groups) where
-  row-is : map signed (part (s .book) (rowStart (d .opening .quarters) r (groupRow g)) (d .opening .quarters)) ≡ tab (d .opening .quarters) (λ (q : ℕ). figure h r (groupRow g) q)
+  row-is : map signed (part (s .book) (rowStart (d .frame .opening .quarters) r (groupRow g)) (d .frame .opening .quarters)) ≡ tab (d .frame .opening .quarters) (λ (q : ℕ). figure h r (groupRow g) q)
   row-is =
       ext-getD (pos 0) (map signed shown) (tab Q (λ (q : ℕ). figure h r (groupRow g) q))
       (long ∙ sym (length-tab Q (λ (q : ℕ). figure h r (groupRow g) q)))
       (λ i l. at i (omega (arith, long)))
     where
       Q : ℕ
-      Q = d .opening .quarters
+      Q = d .frame .opening .quarters
 
       start : ℕ
-      start = rowStart (d .opening .quarters) r (groupRow g)
+      start = rowStart (d .frame .opening .quarters) r (groupRow g)
 
       shown : List ℕ
       shown = part (s .book) start Q
@@ -56,31 +54,31 @@ module _ (d : Desk) (s : Stores) (h : List Told) (H : Holds d s h) (r g : ℕ) (
           ∙ sym (tab-at Q (λ (q : ℕ). figure h r (groupRow g) q) i (pos 0) l)
 
 pub show-granted : (r g : ℕ) → Granted (shows r g)
-unfolding viewIn
+unfolding after fold
 show-granted r g d s h st H o P =
     let fields = not-false (runOk r && groupOk g) (P .1 .1 .0) in
     let inR = and-left (runOk r) _ fields in
     let e = holds-open d s h H in
-    let Q = d .opening .quarters in
-    let book = book-own (d .opening) s st e o (P .1 .0) in
+    let Q = d .frame .opening .quarters in
+    let book = book-own (d .frame .opening) s st e o (P .1 .0) in
     let row = row-is d s h H r g (within-low 1 runs r inR) (within-high 1 runs r inR) (within-high 1 groups g (and-right (runOk r) _ fields)) in
     record {
       reply =
           ap shown
           (ap (λ (l : List ℕ). map signed (part l (rowStart Q r (groupRow g)) Q)) book ∙ row
-          ∙ ap (λ (v : View). tab (v .opening .quarters) (λ (q : ℕ). figure h r (groupRow g) q)) (H .view));
+          ∙ ap (λ (w : Worked). tab (w .opening .quarters) (λ (q : ℕ). figure h r (groupRow g) q)) (H .works));
       holds =
-          rw (left-own (d .opening) s st e theBook o)
-          (finish-quiet d s h H (record { call = shows r g; lengths = lengthsOf st }) d s (H .table) (due-same (versionsIn d) (versionsIn d) 0 (d .day .0) (λ x. refl)) refl refl (H .kept));
+          rw (left-own (d .frame .opening) s st e theBook o)
+          (finish d s h H (record { call = shows r g; lengths = lengthsOf st }) d s (H .table) (H .used) refl (H .kept));
     }
   where
     shown : List ℤ → Reply
     shown l = record { answer = Accepted; row = l }
 
 pub status-granted : (p x : ℕ) → Granted (asks p x)
-unfolding viewIn
+unfolding after fold
 status-granted p x d s h st H o P =
     record {
-      reply = ap (λ (v : View). plainly (statusAnswer (held p x (v .versions)))) (H .view);
-      holds = finish-quiet d s h H (record { call = asks p x; lengths = lengthsOf st }) d s (H .table) (due-same (versionsIn d) (versionsIn d) 0 (d .day .0) (λ r. refl)) refl refl (H .kept);
+      reply = ap (λ (w : Worked). plainly (statusAnswer (held p x (w .versions)))) (H .works);
+      holds = finish d s h H (record { call = asks p x; lengths = lengthsOf st }) d s (H .table) (H .used) refl (H .kept);
     }

@@ -8,9 +8,10 @@ use borrow.Author.Tests.{not-false}
 use lib.IntN.{ℤ, pos}
 use lib.ListN.{length, getD}
 use Rattle.quantity.specs.Limits.{runOk, dayOk}
+use Rattle.quantity.specs.Lists.{fold}
 use Rattle.quantity.proofs.Tests.{and-right}
 use Rattle.state.specs.Change.{settle, settledBy, settledDesk}
-use Rattle.state.specs.Desk.{rowsIn, versionsIn, onDay, withSettled, flagged}
+use Rattle.state.specs.Desk.{rowsIn, versionsIn, deskWith, theDay, theSettled, flagged}
 use Rattle.state.specs.Valid.{versionRecordOk}
 use Rattle.state.specs.Version.{recordAt}
 use Rattle.state.specs.declared.Opening.{Opening}
@@ -18,17 +19,16 @@ use Rattle.state.specs.declared.PointRecord.{PointRecord}
 use Rattle.state.specs.declared.VersionRecord.{VersionRecord}
 use Rattle.state.proofs.Kept.{settle-own, settled-versions}
 use Rattle.model.specs.Call.{settles, lengthsOf}
-use Rattle.model.specs.Plain.{energiesOf}
+use Rattle.model.specs.Plain.{worked, after, energiesOf, logOf}
 use Rattle.model.proofs.Amends.{Stored}
 use Rattle.model.proofs.Books.{Reads, booked-same}
 use Rattle.model.proofs.Figures.{figure-versions}
-use Rattle.model.proofs.Invariant.{Versioned, Granted, tenanted, finish-quiet}
-use Rattle.model.proofs.Logs.{due-same}
+use Rattle.model.proofs.Invariant.{Versioned, Granted, tenanted, finish}
 use Rattle.model.proofs.Selections.{Restated, restated-length, restated-at, restated-all, settled-restated}
 use Rattle.model.proofs.Lists.{length-mapFirst}
 
 module _ (vs ws : List VersionRecord) (e : Restated vs ws) where
-  same-row : (i : ℕ) → recordAt ws i .row .0 ≡ recordAt vs i .row .0
+  pub same-row : (i : ℕ) → recordAt ws i .row .0 ≡ recordAt vs i .row .0
   same-row i = ap (λ (v : VersionRecord). v .row .0) (restated-at vs ws e i)
 
   pub versioned-restated : (o : Opening) (ps : List PointRecord) → Versioned o ps vs → Versioned o ps ws
@@ -52,30 +52,30 @@ module _ (vs ws : List VersionRecord) (e : Restated vs ws) where
       }
 
 pub settle-granted : (r e : ℕ) → Granted (settles r e)
+unfolding after fold
 settle-granted r e d s h st H o P =
     let fields = not-false (runOk r && dayOk e) (P .1 .0) in
     let K = H .kept in
     let T = H .table in
     let vs = versionsIn d in
     let ws = settledBy r vs in
-    let long : d .count ≤ length (d .versions) = omega (arith, T .size, T .count) in
-    let d′ = onDay (withSettled (settledDesk d r) (flagged r (d .settled))) e in
-    let after : versionsIn d′ ≡ ws = settled-versions d r long in
+    let long : d .frame .count ≤ length (d .versions) = omega (arith, T .size, T .count) in
+    let d′ = deskWith (deskWith (settledDesk d r) (theSettled (flagged r (d .frame .settled)))) (theDay e) in
+    let same : versionsIn d′ ≡ ws = settled-versions d r long in
     record {
       reply = refl;
       holds =
-          finish-quiet d s h H (record { call = settles r e; lengths = lengthsOf st }) d′ s
-          (record { size = length-mapFirst (settle r vs) (d .versions) (d .count) long ∙ T .size; count = T .count })
-          (due-same vs ws 0 e (λ q. settle-own r vs q 0))
-          (ap (λ (l : List VersionRecord). record { opening = d .opening; day = e; points = d .points; versions = l; used = d .used; settled = flagged r (d .settled) }) after)
-          refl
+          finish d s h H (record { call = settles r e; lengths = lengthsOf st }) d′ s
+          (record { size = length-mapFirst (settle r vs) (d .versions) (d .frame .count) long ∙ T .size; count = T .count })
+          (H .used)
+          (ap (λ (l : List VersionRecord). worked (d .frame .opening) e (d .points) (d .frame .groups) l (energiesOf h) (logOf h) (flagged r (d .frame .settled))) same)
           (record {
             framed = record { opening = K .framed .opening; day = and-right (runOk r) _ fields; used = K .framed .used };
             grouped = K .grouped;
             pointed = K .pointed;
-            versioned = versioned-restated vs ws (settled-restated r vs) (d .opening) (d .points) (K .versioned);
-            stored = stored-restated vs ws (settled-restated r vs) (d .opening .quarters) (s .values) (energiesOf h) (K .stored);
-            booked = booked-same (d .opening .quarters) (s .book) _ _ (λ run k j _ _ _ _. figure-versions (d .points) (d .groups) vs ws (energiesOf h) (λ q i. settle-own r vs q i) run k j) (K .booked);
+            versioned = versioned-restated vs ws (settled-restated r vs) (d .frame .opening) (d .points) (K .versioned);
+            stored = stored-restated vs ws (settled-restated r vs) (d .frame .opening .quarters) (s .values) (energiesOf h) (K .stored);
+            booked = booked-same (d .frame .opening .quarters) (s .book) _ _ (λ run k j _ _ _ _. figure-versions (d .points) (d .frame .groups) vs ws (energiesOf h) (λ q i. settle-own r vs q i) run k j) (K .booked);
             valuesLong = K .valuesLong;
             logLong = K .logLong;
             logged = K .logged;

@@ -11,14 +11,14 @@ use Rattle.state.specs.Version.{held}
 use Rattle.state.specs.Walk.{walk}
 use Rattle.model.specs.Causes.{orIf, firstOf, opensOk, otherLengths, isAbsent, notCheck, refusal}
 use Rattle.model.specs.Log.{differ, due}
-use Rattle.model.specs.Plain.{openingOf, dayOf, pointsOf, groupsOf, versionsOf, energiesOf, logOf, settledOf, viewIn, figure, tab, answered, joined, plainReply, plainNext, plainReplies, plainEnd}
+use Rattle.model.specs.Plain.{openingOf, viewIn, figure, tab, answered, joined, plainReply, plainNext, plainReplies, plainEnd, workedOut, after}
 use Rattle.model.specs.Call.{telling}
 use Rattle.model.specs.Sample.{Sample, Example, plainDesk, room, activations, month, file}
 use Rattle.model.specs.Series.{toSide, fromSide, sidesOf, onSide, adds, energy, figureOf}
 use Rattle.model.specs.Step.{statusAnswer}
 
 pub sample : Sample (plainDesk (room 2))
-unfolding all any fold sumTo seriesOk best openingOk held walk orIf firstOf opensOk otherLengths isAbsent notCheck refusal differ due openingOf dayOf pointsOf groupsOf versionsOf energiesOf logOf settledOf viewIn figure tab answered joined plainReply plainNext plainReplies plainEnd activations month toSide fromSide sidesOf onSide adds energy figureOf statusAnswer
+unfolding all any fold sumTo seriesOk best openingOk held walk orIf firstOf opensOk otherLengths isAbsent notCheck refusal differ due viewIn figure tab answered joined plainReply plainNext plainReplies plainEnd activations month toSide fromSide sidesOf onSide adds energy figureOf statusAnswer workedOut after
 sample =
     record {
       taken = refl;
@@ -37,13 +37,13 @@ sample =
     }
 
 pub example : Example (plainDesk (room 1))
-unfolding all any fold sumTo seriesOk best openingOk held walk orIf firstOf opensOk otherLengths isAbsent notCheck refusal differ due openingOf dayOf pointsOf groupsOf versionsOf energiesOf logOf settledOf viewIn figure tab answered joined plainReply plainNext plainReplies plainEnd file toSide fromSide sidesOf onSide adds energy figureOf statusAnswer
+unfolding all any fold sumTo seriesOk best openingOk held walk orIf firstOf opensOk otherLengths isAbsent notCheck refusal differ due viewIn figure tab answered joined plainReply plainNext plainReplies plainEnd file toSide fromSide sidesOf onSide adds energy figureOf statusAnswer workedOut after
 example = record { answers = refl; figures = (refl, refl); totals = (refl, refl) }
 
 pub month-quarters : openingOf (plainEnd [] (map (telling (room 2)) month)) .quarters ≡ 2
-unfolding all any fold sumTo seriesOk best openingOk held walk orIf firstOf opensOk otherLengths isAbsent notCheck refusal differ due openingOf dayOf pointsOf groupsOf versionsOf energiesOf logOf settledOf viewIn figure tab answered joined plainReply plainNext plainReplies plainEnd activations month toSide fromSide sidesOf onSide adds energy figureOf statusAnswer
+unfolding all any fold sumTo seriesOk best openingOk held walk orIf firstOf opensOk otherLengths isAbsent notCheck refusal differ due viewIn figure tab answered joined plainReply plainNext plainReplies plainEnd activations month toSide fromSide sidesOf onSide adds energy figureOf statusAnswer workedOut after
 month-quarters = refl
 
 pub file-quarters : openingOf (plainEnd [] (map (telling (room 1)) file)) .quarters ≡ 1
-unfolding all any fold sumTo seriesOk best openingOk held walk orIf firstOf opensOk otherLengths isAbsent notCheck refusal differ due openingOf dayOf pointsOf groupsOf versionsOf energiesOf logOf settledOf viewIn figure tab answered joined plainReply plainNext plainReplies plainEnd file toSide fromSide sidesOf onSide adds energy figureOf statusAnswer
+unfolding all any fold sumTo seriesOk best openingOk held walk orIf firstOf opensOk otherLengths isAbsent notCheck refusal differ due viewIn figure tab answered joined plainReply plainNext plainReplies plainEnd file toSide fromSide sidesOf onSide adds energy figureOf statusAnswer workedOut after
 file-quarters = refl

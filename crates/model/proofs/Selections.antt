@@ -1,9 +1,10 @@
 -- Laws of selections beside state's: where a selection lies, what does not count in a run, and records of which only statuses change.
 -- Assumes nothing.
-use Prim.Native.Nat.{ℕ, _<_}
+use Prim.Native.Nat.{ℕ, _≤_, _<_}
 use mathlib.Core.Path.{_≡_, refl, sym, ap, _∙_}
 use mathlib.Core.Bool.{Bool, true, false, _&&_, and-false, true≢false, false≢true}
 use mathlib.Core.List.{List, map}
+use native.Mathlib.Omega.{arith}
 use lib.Dec.{eqb}
 use lib.ListN.{length, set, length-map, List·getD-map}
 use lib.Seq.{map-set-same}
@@ -11,7 +12,7 @@ use Rattle.quantity.specs.Lists.{all}
 use Rattle.quantity.proofs.Lists.{all-map}
 use Rattle.quantity.proofs.Tests.{by-test, and-right}
 use Rattle.state.specs.Change.{submitted, noticed, confirm, settle, settledBy}
-use Rattle.state.specs.Selection.{best, versionOf, isCounted, own, orElse, selected, Highest}
+use Rattle.state.specs.Selection.{rowAt, best, versionOf, isCounted, own, orElse, selected, Highest}
 use Rattle.state.specs.Status.{counts, isCheck, submittedStatus, confirmedStatus, settledStatus}
 use Rattle.state.specs.Version.{emptyVersion, newVersion, restatus, recordAt, isAt, held, HeldIn}
 use Rattle.state.specs.declared.Held.{Held}
@@ -21,6 +22,7 @@ use Rattle.state.specs.declared.Selection.the-variants.{None, Selected}
 use Rattle.state.specs.declared.Status.{Status}
 use Rattle.state.specs.declared.Status.the-variants.{Check, Settlement, Settled, Correction, CorrectionSettled}
 use Rattle.state.specs.declared.VersionRecord.{VersionRecord}
+use Rattle.state.specs.declared.VersionRow.{VersionRow}
 use Rattle.state.proofs.Picks.{best-highest, best-skips, best-set, held-right, own-highest}
 use Rattle.model.proofs.Lists.{map-same, all-then}
 
@@ -31,20 +33,37 @@ abbrev pub Within : ℕ → Selection → Type 0
 Within n None = Unit {0}
 Within n (Selected r) = r .at < n
 
-highest-within : (f : VersionRecord → Bool) (vs : List VersionRecord) (n : ℕ) (s : Selection) → Highest f vs n s → Within n s
-highest-within f vs n None h = tt
-highest-within f vs n (Selected r) h = h .within
+-- a row of the version table, with the row of values that stands in its record
+abbrev pub Sited : List VersionRecord → Selection → Type 0
+Sited vs None = Unit {0}
+Sited vs (Selected r) = (r .at < length vs) × (recordAt vs (r .at) .row .0 ≡ r .row .0)
 
-or-within : (n : ℕ) (s t : Selection) → Within n s → Within n t → Within n (orElse s t)
-or-within n None t p q = q
-or-within n (Selected r) t p q = p
+highest-sited : (f : VersionRecord → Bool) (vs : List VersionRecord) (s : Selection) → Highest f vs (length vs) s → Sited vs s
+highest-sited f vs None h = tt
+highest-sited f vs (Selected r) h = (h .within, ap (λ (x : VersionRow). x .row .0) (h .here))
+
+or-sited : (vs : List VersionRecord) (s t : Selection) → Sited vs s → Sited vs t → Sited vs (orElse s t)
+or-sited vs None t p q = q
+or-sited vs (Selected r) t p q = p
+
+pub selected-sited : (run p : ℕ) (vs : List VersionRecord) → Sited vs (selected run p vs)
+selected-sited run p vs =
+    by-test (Sited vs) (eqb run 1) (own 1 p vs) (orElse (own 2 p vs) (own 1 p vs)) (λ _. here 1) (λ _. or-sited vs (own 2 p vs) (own 1 p vs) (here 2) (here 1))
+  where
+    here : (r : ℕ) → Sited vs (own r p vs)
+    here r = highest-sited (isCounted r p) vs (own r p vs) (own-highest r p vs)
+
+-- it stays one where its record keeps its row
+pub sited-on : (vs ws : List VersionRecord) → length vs ≤ length ws → ((i : ℕ) → i < length vs → recordAt ws i .row .0 ≡ recordAt vs i .row .0) → (s : Selection) → Sited vs s → Sited ws s
+sited-on vs ws few same None w = tt
+sited-on vs ws few same (Selected r) w = (omega (arith, w .0), same (r .at) (w .0) ∙ w .1)
 
 pub selected-within : (run p : ℕ) (vs : List VersionRecord) → Within (length vs) (selected run p vs)
-selected-within run p vs =
-    by-test (Within (length vs)) (eqb run 1) (own 1 p vs) (orElse (own 2 p vs) (own 1 p vs)) (λ _. here 1) (λ _. or-within (length vs) (own 2 p vs) (own 1 p vs) (here 2) (here 1))
+selected-within run p vs = go (selected run p vs) (selected-sited run p vs)
   where
-    here : (r : ℕ) → Within (length vs) (own r p vs)
-    here r = highest-within (isCounted r p) vs (length vs) (own r p vs) (own-highest r p vs)
+    go : (s : Selection) → Sited vs s → Within (length vs) s
+    go None w = tt
+    go (Selected r) w = w .0
 
 -- where none passes a test, there is no pick
 pub best-none : (f : VersionRecord → Bool) (vs : List VersionRecord) → ((j : ℕ) → j < length vs → f (recordAt vs j) ≡ false) → best f vs ≡ None
@@ -77,11 +96,10 @@ module _ (r i : ℕ) where
     where
       go : (h : Held) → HeldIn p x vs (length vs) h → own r i (confirm c y d h vs) ≡ own r i vs
       go Absent q = refl
-      go (Has j t) q =
-          let v = recordAt vs j in
+      go (Has j v) q =
           let w = restatus (confirmedStatus c d) v in
-          by-test (λ (l : List VersionRecord). own r i l ≡ own r i vs) (eqb y 1 && isCheck t) (set vs j w) vs
-          (λ z. best-set (isCounted r i) vs j w (uncounted w e ∙ sym (uncounted v (ap (counts r) (q .status) ∙ check-uncounted t (and-right (eqb y 1) _ z)))) refl)
+          by-test (λ (l : List VersionRecord). own r i l ≡ own r i vs) (eqb y 1 && isCheck (v .status)) (set vs j w) vs
+          (λ z. best-set (isCounted r i) vs j w (uncounted w e ∙ sym (ap (isCounted r i) (q .here) ∙ uncounted v (check-uncounted (v .status) (and-right (eqb y 1) _ z)))) (λ k. ap (rowAt k) (sym (q .here))))
           (λ _. refl)
 
 -- ---- restated records: nothing but statuses changes
@@ -95,13 +113,13 @@ abbrev pub Restated : (before after : List VersionRecord) → Type 0
 Restated vs ws = map bare ws ≡ map bare vs
 
 pub noticed-restated : (c p x y d : ℕ) (vs : List VersionRecord) → Restated vs (noticed c p x y d vs)
-noticed-restated c p x y d vs = go (held p x vs)
+noticed-restated c p x y d vs = go (held p x vs) (held-right p x vs)
   where
-    go : (h : Held) → Restated vs (confirm c y d h vs)
-    go Absent = refl
-    go (Has j t) =
-        by-test (Restated vs) (eqb y 1 && isCheck t) (set vs j (restatus (confirmedStatus c d) (recordAt vs j))) vs
-        (λ _. map-set-same bare vs j (restatus (confirmedStatus c d) (recordAt vs j)) emptyVersion refl) (λ _. refl)
+    go : (h : Held) → HeldIn p x vs (length vs) h → Restated vs (confirm c y d h vs)
+    go Absent q = refl
+    go (Has j v) q =
+        by-test (Restated vs) (eqb y 1 && isCheck (v .status)) (set vs j (restatus (confirmedStatus c d) v)) vs
+        (λ _. map-set-same bare vs j (restatus (confirmedStatus c d) v) emptyVersion (ap bare (sym (q .here)))) (λ _. refl)
 
 pub settled-restated : (run : ℕ) (vs : List VersionRecord) → Restated vs (settledBy run vs)
 unfolding settle

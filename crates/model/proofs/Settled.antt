@@ -18,15 +18,15 @@ use Rattle.state.specs.declared.Runs.{Runs}
 use Rattle.state.proofs.Kept.{settle-own}
 use Rattle.model.specs.Agreement.{Running, Chained, end, fresh}
 use Rattle.model.specs.Call.{Call, opens, activates, deactivates, submits, notices, assigns, shows, asks, settles, Stores, Lengths, Lent, Told, told, telling}
-use Rattle.model.specs.Causes.{rules, orIf, firstOf, openingBy, opensOk, refusal}
+use Rattle.model.specs.Causes.{terms, rules, orIf, firstOf, openingBy, opensOk, refusal}
 use Rattle.model.specs.Laws.{Passed}
-use Rattle.model.specs.Plain.{sets, openingOf, dayOf, versionsOf, settledOf, viewIn, joined, plainNext, plainEnd}
+use Rattle.model.specs.Plain.{Worked, openingOf, dayOf, versionsOf, settledOf, viewIn, joined, plainNext, plainEnd, workedOut, after}
 use Rattle.model.specs.View.{View}
 use Rattle.model.specs.declared.Verdict.{Verdict}
 use Rattle.model.specs.declared.Verdict.the-variants.{Fine, Refuse}
 use Rattle.model.proofs.Corollaries.{reached}
 use Rattle.model.proofs.Demands.{chained-front}
-use Rattle.model.proofs.Fresh.{State, before, after}
+use Rattle.model.proofs.Fresh.{State, early, holding}
 use Rattle.model.proofs.Invariant.{opening-open}
 use Rattle.model.proofs.Lends.{opening-stays}
 use Rattle.model.proofs.Main.{agree}
@@ -34,16 +34,16 @@ use Rattle.model.proofs.Rules.{passed}
 use Rattle.model.proofs.Selections.{own-uncounted, own-unturned}
 
 -- the day never goes back
-pub day-grows : (v : View) (n : Lengths) (c : Call) → Passed (rules v n c) → v .day ≤ sets c .day (v .day)
+pub day-grows : (v : View) (n : Lengths) (c : Call) → Passed (rules v n c) → v .frame .day .0 ≤ terms c .day (v .frame .day .0)
 day-grows v n (opens q f c k gs) P = omega arith
-day-grows v n (activates p k a b d) P = ltb-false d (v .day) (P .1 .1 .0)
-day-grows v n (deactivates p d) P = ltb-false d (v .day) (P .1 .1 .0)
-day-grows v n (submits p x d es) P = ltb-false d (v .day) (P .1 .1 .1 .0)
-day-grows v n (notices p x y d) P = ltb-false d (v .day) (P .1 .1 .1 .0)
-day-grows v n (assigns a g d) P = ltb-false d (v .day) (P .1 .1 .1 .0)
+day-grows v n (activates p k a b d) P = ltb-false d (v .frame .day .0) (P .1 .1 .0)
+day-grows v n (deactivates p d) P = ltb-false d (v .frame .day .0) (P .1 .1 .0)
+day-grows v n (submits p x d es) P = ltb-false d (v .frame .day .0) (P .1 .1 .1 .0)
+day-grows v n (notices p x y d) P = ltb-false d (v .frame .day .0) (P .1 .1 .1 .0)
+day-grows v n (assigns a g d) P = ltb-false d (v .frame .day .0) (P .1 .1 .1 .0)
 day-grows v n (shows r g) P = omega arith
 day-grows v n (asks p x) P = omega arith
-day-grows v n (settles r d) P = ltb-false d (v .day) (P .1 .1 .0)
+day-grows v n (settles r d) P = ltb-false d (v .frame .day .0) (P .1 .1 .0)
 
 -- ---- the accepted calls of an opened plain desk
 
@@ -69,8 +69,8 @@ module _ (h : List Told) (O : Opened h) (n : Lengths) where
   is-open = opening-open (openingOf h) (O .opening)
 
   -- a run 1 that a call settles, or that was settled before, lies past the deadline
-  past-after : (c : Call) → Passed (rules (viewIn h) n c) → sets c .settled (settledOf h) .first ≡ true → openingOf h .clearing .0 < sets c .day (dayOf h)
-  unfolding viewIn
+  past-after : (c : Call) → Passed (rules (viewIn h) n c) → after (telling n c) (workedOut h) .settled .first ≡ true → openingOf h .clearing .0 < after (telling n c) (workedOut h) .day
+  unfolding viewIn after fold
   past-after (opens q f c k gs) P e = O .past e
   past-after (activates p k a b d) P e = omega (arith, O .past e, day-grows (viewIn h) n (activates p k a b d) P)
   past-after (deactivates p d) P e = omega (arith, O .past e, day-grows (viewIn h) n (deactivates p d) P)
@@ -86,7 +86,8 @@ module _ (h : List Told) (O : Opened h) (n : Lengths) where
       go false z = omega (arith, O .past (rw z at e), day-grows (viewIn h) n (settles r d) P)
 
   -- run 1 stays settled
-  settled-after : (c : Call) → settledOf h .first ≡ true → sets c .settled (settledOf h) .first ≡ true
+  settled-after : (c : Call) → settledOf h .first ≡ true → after (telling n c) (workedOut h) .settled .first ≡ true
+  unfolding after fold
   settled-after (opens q f c k gs) e = e
   settled-after (activates p k a b d) e = e
   settled-after (deactivates p d) e = e
@@ -98,8 +99,8 @@ module _ (h : List Told) (O : Opened h) (n : Lengths) where
   settled-after (settles r d) e = rw (e, or-true (eqb r 1))
 
   -- and its selection stays
-  own-after : (c : Call) → Passed (rules (viewIn h) n c) → settledOf h .first ≡ true → (i : ℕ) → own 1 i (sets c .versions (openingOf h) (versionsOf h)) ≡ own 1 i (versionsOf h)
-  unfolding viewIn
+  own-after : (c : Call) → Passed (rules (viewIn h) n c) → settledOf h .first ≡ true → (i : ℕ) → own 1 i (after (telling n c) (workedOut h) .versions) ≡ own 1 i (versionsOf h)
+  unfolding viewIn after fold
   own-after (opens q f c k gs) P e i = refl
   own-after (activates p k a b d) P e i = refl
   own-after (deactivates p d) P e i = refl
@@ -121,7 +122,7 @@ record Onward (h g : List Told) : Type 0 where
   stays : settledOf h .first ≡ true → (i : ℕ) → own 1 i (versionsOf g) ≡ own 1 i (versionsOf h)
 
 opened-on : (h : List Told) (n : Lengths) (c : Call) → Opened h → Onward h (plainNext h (telling n c))
-unfolding plainNext joined refusal openingOf dayOf versionsOf settledOf
+unfolding plainNext joined refusal workedOut after fold
 opened-on h n c O = go (refusal (viewIn h) (telling n c)) refl (opening-stays h n c (is-open h O n))
   where
     go : (v : Verdict) → refusal (viewIn h) (telling n c) ≡ v → openingOf (joined (refusal (viewIn h) (telling n c)) h (telling n c)) ≡ openingOf h → Onward h (joined v h (telling n c))
@@ -136,7 +137,7 @@ opened-on h n c O = go (refusal (viewIn h) (telling n c)) refl (opening-stays h 
         }
 
 first-open : (n : Lengths) (q f c k : ℕ) (gs : List ℕ) → opensOk (openingBy q f c k n) gs ≡ true → Onward [] (telling n (opens q f c k gs) ∷ [])
-unfolding opensOk openingOf dayOf versionsOf settledOf
+unfolding opensOk workedOut after fold
 first-open n q f c k gs e =
     record {
       plain = opened (record { opening = and-left (openingOk (openingBy q f c k n)) _ e; past = λ z. absurd (false≢true z) });
@@ -146,7 +147,7 @@ first-open n q f c k gs e =
 
 -- from nothing, only an opening is accepted
 empty-on : (n : Lengths) (c : Call) → Onward [] (plainNext [] (telling n c))
-unfolding plainNext joined refusal firstOf fold orIf viewIn openingOf dayOf versionsOf settledOf
+unfolding plainNext joined refusal firstOf fold orIf viewIn workedOut after
 empty-on n (opens q f c k gs) = go (opensOk (openingBy q f c k n) gs) refl
   where
     go : (t : Bool) → opensOk (openingBy q f c k n) gs ≡ t → Onward [] (plainNext [] (telling n (opens q f c k gs)))
@@ -188,13 +189,13 @@ pub settled-plain : (l m : List Told) → settledOf (plainEnd [] l) .first ≡ t
 settled-plain l m e p =
     ap (λ (h : List Told). own 1 p (versionsOf h)) (end-append [] l m) ∙ on-end (plainEnd [] l) m (on-end [] l (empty refl) .plain) .stays e p
 
-same-settled : (r : Running) (h : List Told) → State r h → r .desk .settled ≡ settledOf h
-unfolding settledOf viewIn
-same-settled r h (before a b) = rw (a, b) refl
-same-settled r h (after H) = ap (λ (v : View). v .settled) (H .view)
+same-settled : (r : Running) (h : List Told) → State r h → r .desk .frame .settled ≡ settledOf h
+unfolding workedOut
+same-settled r h (early a b) = rw (a, b) refl
+same-settled r h (holding H) = ap (λ (w : Worked). w .settled) (H .works)
 
 -- and on the running desk
-pub settled-stays : (s : Stores) (l m : List Lent) → Chained (fresh s) (l ++ m) → end (fresh s) l .desk .settled .first ≡ true
+pub settled-stays : (s : Stores) (l m : List Lent) → Chained (fresh s) (l ++ m) → end (fresh s) l .desk .frame .settled .first ≡ true
     → (p : ℕ) → selected 1 p (versionsIn (end (fresh s) (l ++ m) .desk)) ≡ selected 1 p (versionsIn (end (fresh s) l .desk))
 settled-stays s l m c e p =
     let front = chained-front (fresh s) l m c in

@@ -7,9 +7,9 @@ use native.Mathlib.Omega.{arith}
 use borrow.Author.Tests.{eqb-true, leb-false, ltb-false, lt-ltb, not-false}
 use lib.Dec.{leb, ltb, eqb}
 use lib.IntN.{ℤ}
-use lib.ListN.{length, length-set, length-append, length-map}
+use lib.ListN.{length, length-set, length-append, length-map, List·getD-append}
 use Rattle.quantity.specs.Limits.{points, versions, pointOk, versionOk, dayOk, energyOk}
-use Rattle.quantity.specs.Lists.{all}
+use Rattle.quantity.specs.Lists.{all, fold}
 use Rattle.quantity.specs.Word.{word}
 use Rattle.quantity.proofs.Tests.{and-left, and-right, and-both, or-left, or-right, within-low, within-high}
 use Rattle.book.specs.Row.{splice}
@@ -18,7 +18,7 @@ use Rattle.state.specs.Change.{submitted, submittedDesk}
 use Rattle.state.specs.Desk.{rowsIn, versionsIn}
 use Rattle.state.specs.Point.{pointAt, isActive}
 use Rattle.state.specs.Valid.{versionRecordOk}
-use Rattle.state.specs.Version.{newVersion}
+use Rattle.state.specs.Version.{newVersion, emptyVersion}
 use Rattle.state.specs.declared.Desk.{Desk}
 use Rattle.state.specs.declared.VersionRecord.{VersionRecord}
 use Rattle.state.proofs.Bounds.{fit-rows}
@@ -27,8 +27,8 @@ use Rattle.state.proofs.Picks.{submit-other}
 use Rattle.model.specs.Call.{submits, Stores, lengthsOf, Told}
 use Rattle.model.specs.Causes.{rules, submitOk}
 use Rattle.model.specs.Laws.{Passed}
-use Rattle.model.specs.Log.{due, usedAfter}
-use Rattle.model.specs.Plain.{energiesOf}
+use Rattle.model.specs.Log.{due, addRow, usedAfter}
+use Rattle.model.specs.Plain.{worked, after, energiesOf, logOf}
 use Rattle.model.specs.Step.{followed, followedDesk}
 use Rattle.model.specs.View.{viewOf}
 use Rattle.model.proofs.Books.{booked-same}
@@ -36,30 +36,31 @@ use Rattle.model.proofs.Changing.{changed-kept, left-holds, on-own}
 use Rattle.model.proofs.Figures.{figure-energies}
 use Rattle.model.proofs.Invariant.{Holds, Versioned, Done, Granted, tenanted, count-is, quarters-in, finish}
 use Rattle.model.proofs.Lists.{all-snoc}
+use Rattle.model.proofs.Logs.{used-rows}
 use Rattle.model.proofs.Storing.{stored-more}
 
 module _ (p x e : ℕ) (es : List ℤ) (d : Desk) (s : Stores) (h : List Told) (H : Holds d s h) (P : Passed (rules (viewOf d) (lengthsOf s) (submits p x e es))) where
   -- the version that the call makes, the versions, the desk and the stores then, if its row of values is m
   abbrev new : ℕ → VersionRecord
-  new m = newVersion (d .opening .first .0) m p x e
+  new m = newVersion (d .frame .opening .first .0) m p x e
 
-  abbrev after : ℕ → List VersionRecord
-  after m = submitted (new m) (versionsIn d)
+  abbrev more : ℕ → List VersionRecord
+  more m = submitted (new m) (versionsIn d)
 
   abbrev desk : ℕ → Desk
-  desk m = followedDesk d p e (after m) (submittedDesk d (new m))
+  desk m = followedDesk d p e (more m) (submittedDesk d (new m))
 
   abbrev values : ℕ → List ℕ
-  values m = splice (s .values) (m * d .opening .quarters) (d .opening .quarters) (map word es)
+  values m = splice (s .values) (m * d .frame .opening .quarters) (d .frame .opening .quarters) (map word es)
 
   abbrev stores : ℕ → Stores
-  stores m = followed d s p e (after m) (values m)
+  stores m = followed d s p e (more m) (values m)
 
-  n : length (versionsIn d) ≡ d .count
+  n : length (versionsIn d) ≡ d .frame .count
   n = count-is d (H .table)
 
-  fields : submitOk p x e (d .opening .quarters) es ≡ true
-  fields = not-false (submitOk p x e (d .opening .quarters) es) (P .1 .1 .0)
+  fields : submitOk p x e (d .frame .opening .quarters) es ≡ true
+  fields = not-false (submitOk p x e (d .frame .opening .quarters) es) (P .1 .1 .0)
 
   inP : pointOk p ≡ true
   inP = and-left (pointOk p) _ fields
@@ -67,60 +68,63 @@ module _ (p x e : ℕ) (es : List ℤ) (d : Desk) (s : Stores) (h : List Told) (
   inX : versionOk x ≡ true
   inX = and-left (versionOk x) _ (and-right (pointOk p) _ fields)
 
-  rest : (dayOk e && (eqb (length es) (d .opening .quarters) && all energyOk es)) ≡ true
+  rest : (dayOk e && (eqb (length es) (d .frame .opening .quarters) && all energyOk es)) ≡ true
   rest = and-right (versionOk x) _ (and-right (pointOk p) _ fields)
 
   -- a series of Q energies
-  pub full : length es ≡ d .opening .quarters
-  full = eqb-true (length es) (d .opening .quarters) (and-left (eqb (length es) (d .opening .quarters)) _ (and-right (dayOk e) _ rest))
+  pub full : length es ≡ d .frame .opening .quarters
+  full = eqb-true (length es) (d .frame .opening .quarters) (and-left (eqb (length es) (d .frame .opening .quarters)) _ (and-right (dayOk e) _ rest))
 
-  free : (leb versions (length (versionsIn d)) || ltb (d .opening .values) ((length (versionsIn d) + 1) * d .opening .quarters)) ≡ false
+  free : (leb versions (length (versionsIn d)) || ltb (d .frame .opening .values) ((length (versionsIn d) + 1) * d .frame .opening .quarters)) ≡ false
   free = P .1 .1 .1 .1 .1 .1 .1 .1 .1 .0
 
   below : length (versionsIn d) < versions
   below = leb-false versions (length (versionsIn d)) (or-left _ _ free)
 
-  fits : (length (versionsIn d) + 1) * d .opening .quarters ≤ d .opening .values
-  fits = ltb-false (d .opening .values) _ (or-right (leb versions (length (versionsIn d))) _ free)
+  fits : (length (versionsIn d) + 1) * d .frame .opening .quarters ≤ d .frame .opening .values
+  fits = ltb-false (d .frame .opening .values) _ (or-right (leb versions (length (versionsIn d))) _ free)
 
-  room : length (versionsIn d) * d .opening .quarters + d .opening .quarters ≤ length (s .values)
+  room : length (versionsIn d) * d .frame .opening .quarters + d .frame .opening .quarters ≤ length (s .values)
   room = omega (arith, fits, H .kept .valuesLong)
 
-  row-in : length (versionsIn d) < rowsIn (d .opening)
+  row-in : length (versionsIn d) < rowsIn (d .frame .opening)
   row-in =
-      let q = quarters-in (d .opening) (H .kept .framed .opening) in
-      omega (arith, fit-rows (d .opening) q (length (versionsIn d) + 1) fits)
+      let q = quarters-in (d .frame .opening) (H .kept .framed .opening) in
+      omega (arith, fit-rows (d .frame .opening) q (length (versionsIn d) + 1) fits)
 
-  versioned : Versioned (d .opening) (d .points) (after (length (versionsIn d)))
+  versioned : Versioned (d .frame .opening) (d .points) (more (length (versionsIn d)))
   versioned =
       let O = H .kept .versioned in
       let m = length (versionsIn d) in
-      let more = length-append (versionsIn d) (new m ∷ []) in
+      let longer = length-append (versionsIn d) (new m ∷ []) in
       record {
         count = omega (arith, below);
         rows = omega (arith, row-in);
-        each = all-snoc (versionRecordOk (rowsIn (d .opening))) (versionsIn d) (new m) (O .each) (and-both (pointOk p) _ inP (and-both (versionOk x) _ inX (lt-ltb m (rowsIn (d .opening)) row-in)));
+        each = all-snoc (versionRecordOk (rowsIn (d .frame .opening))) (versionsIn d) (new m) (O .each) (and-both (pointOk p) _ inP (and-both (versionOk x) _ inX (lt-ltb m (rowsIn (d .frame .opening)) row-in)));
         homes = all-snoc (tenanted (d .points)) (versionsIn d) (new m) (O .homes) (not-false (isActive (pointAt (d .points) p)) (P .1 .1 .1 .1 .1 .0));
       }
 
   -- with the next unused row, which is as many as there are versions
   holds : Holds (desk (length (versionsIn d))) (stores (length (versionsIn d))) (record { call = submits p x e es; lengths = lengthsOf s } ∷ h)
+  unfolding after fold
   holds =
       let K = H .kept in
       let T = H .table in
       let m = length (versionsIn d) in
-      let small = and-right (eqb (length es) (d .opening .quarters)) _ (and-right (dayOk e) _ rest) in
+      let row = due (versionsIn d) (more m) p e in
+      let small = and-right (eqb (length es) (d .frame .opening .quarters)) _ (and-right (dayOk e) _ rest) in
       finish d s h H (record { call = submits p x e es; lengths = lengthsOf s }) (desk m) (stores m)
-      (record { size = length-set (d .versions) (d .count) (new m) ∙ T .size; count = omega (arith, below, n) })
-      (ap (λ (l : List VersionRecord). record { opening = d .opening; day = e; points = d .points; versions = l; used = usedAfter (due (versionsIn d) (after m) p e) (d .used); settled = d .settled })
+      (record { size = length-set (d .versions) (d .frame .count) (new m) ∙ T .size; count = omega (arith, below, n) })
+      (ap (usedAfter row) (H .used) ∙ used-rows row (logOf h))
+      (ap (λ (l : List VersionRecord). worked (d .frame .opening) e (d .points) (d .frame .groups) l (energiesOf h ++ (es ∷ [])) (addRow row (logOf h)) (d .frame .settled))
       (submitted-versions d (new m) (omega (arith, below, n, T .size))))
-      refl
-      (changed-kept d s h H p e (within-low 1 points p inP) (within-high 1 points p inP) (and-left (dayOk e) _ rest) (after m) (values m) (energiesOf h ++ (es ∷ [])) versioned
-      (stored-more (d .opening .quarters) (s .values) (versionsIn d) (energiesOf h) (K .stored) (new m) refl es room full small)
-      (length-splice (s .values) (map word es) (m * d .opening .quarters) (d .opening .quarters) room (length-map es word ∙ full) ∙ K .valuesLong)
+      (changed-kept d s h H p e (within-low 1 points p inP) (within-high 1 points p inP) (and-left (dayOk e) _ rest) (more m) (values m) (energiesOf h ++ (es ∷ [])) versioned
+      (stored-more (d .frame .opening .quarters) (s .values) (versionsIn d) (energiesOf h) (K .stored) (new m) refl es room full small)
+      (length-splice (s .values) (map word es) (m * d .frame .opening .quarters) (d .frame .opening .quarters) room (length-map es word ∙ full) ∙ K .valuesLong)
       (omega (arith, length-append (versionsIn d) (new m ∷ [])))
+      (λ i l. ap (λ (v : VersionRecord). v .row .0) (List·getD-append (versionsIn d) (new m ∷ []) emptyVersion i l))
       (λ r i ne. submit-other r i (new m) (versionsIn d) (λ z. ne (sym z)))
-      (booked-same (d .opening .quarters) (s .book) _ _ (λ run k j _ _ _ _. figure-energies (d .points) (d .groups) (versionsIn d) (energiesOf h) es (K .stored .long) run k j) (K .booked))
+      (booked-same (d .frame .opening .quarters) (s .book) _ _ (λ run k j _ _ _ _. figure-energies (d .points) (d .frame .groups) (versionsIn d) (energiesOf h) es (K .stored .long) run k j) (K .booked))
       (P .1 .1 .1 .1 .1 .1 .1 .1 .1 .1 .0))
 
   done : Done d s h (submits p x e es) s
@@ -128,7 +132,7 @@ module _ (p x e : ℕ) (es : List ℤ) (d : Desk) (s : Stores) (h : List Told) (
       record {
         reply = refl;
         holds =
-            left-holds (desk (d .count)) s (stores (d .count)) (record { call = submits p x e es; lengths = lengthsOf s } ∷ h)
+            left-holds (desk (d .frame .count)) s (stores (d .frame .count)) (record { call = submits p x e es; lengths = lengthsOf s } ∷ h)
             (subst (λ (m : ℕ). Holds (desk m) (stores m) (record { call = submits p x e es; lengths = lengthsOf s } ∷ h)) n holds);
       }
 

@@ -13,7 +13,8 @@ use Rattle.book.specs.Place.{groupRow, rowStart}
 use Rattle.state.specs.Desk.{freshDesk, isOpen, versionsIn}
 use Rattle.state.specs.declared.Desk.{Desk}
 use Rattle.state.specs.declared.Opening.{Opening}
-use Rattle.model.specs.Call.{Call, Stores, Taken, takes, Lent, Told, told, Reply}
+use Rattle.model.specs.Call.{Call, Stores, Taken, Lent, Told, told, Reply}
+use Rattle.model.specs.Causes.{takes}
 use Rattle.model.specs.Log.{logNumbers}
 use Rattle.model.specs.Plain.{plainReplies, plainEnd, openingOf, versionsOf, logOf, figure, outside}
 use Rattle.model.specs.Step.{step, replyOf}
@@ -51,12 +52,12 @@ left o t s e =
 unfoldable pub next : Running → Lent → Running
 next r l =
     let o = step (r .desk) l in
-    record { desk = o .desk; stores = left (o .desk .opening) (takes (l .call)) (r .stores) (o .stores) }
+    record { desk = o .desk; stores = left (o .desk .frame .opening) (takes (l .call)) (r .stores) (o .stores) }
 
 -- "Each call gets the desk as the last one returned or left it, and nobody else writes in it or its stores meanwhile."
 unfoldable pub Chained : Running → List Lent → Type 0
 Chained r [] = Unit {0}
-Chained r (l ∷ ls) = Own (r .desk .opening) (takes (l .call)) (r .stores) (l .stores) × Chained (next r l) ls
+Chained r (l ∷ ls) = Own (r .desk .frame .opening) (takes (l .call)) (r .stores) (l .stores) × Chained (next r l) ls
 
 -- the running desk's answers
 unfoldable pub replies : Running → List Lent → List Reply
@@ -74,19 +75,19 @@ fresh s = record { desk = freshDesk; stores = s }
 
 -- the figure that the book has for a run, row k and quarter hour, counted from 0
 unfoldable pub bookFigure : Running → (run k quarter : ℕ) → ℤ
-bookFigure r run k q = signed (getD (r .stores .book) (rowStart (r .desk .opening .quarters) run k + q) 0)
+bookFigure r run k q = signed (getD (r .stores .book) (rowStart (r .desk .frame .opening .quarters) run k + q) 0)
 
 -- "After every such list, whichever calls are refused, both desks have given the same answer to each call, show's row included. They have
 -- the same versions, each with the same status, the same log rows in the same order, and the same figure for each run, row and quarter
 -- hour. In both, for each run and quarter hour, the 64 group figures add up to the outside exchange"
 pub record Agree (given : List Reply) (r : Running) (plain : List Reply) (h : List Told) : Type 0 where
   pub answers : given ≡ plain
-  pub opening : r .desk .opening ≡ openingOf h
+  pub opening : r .desk .frame .opening ≡ openingOf h
   pub versions : versionsIn (r .desk) ≡ versionsOf h
-  pub log : take (4 * r .desk .used) (r .stores .log) ≡ logNumbers (logOf h)
-  pub figures : (run k q : ℕ) → 1 ≤ run → run ≤ runs → k < runRows → q < r .desk .opening .quarters → bookFigure r run k q ≡ figure h run k q
-  pub sum : (run q : ℕ) → 1 ≤ run → run ≤ runs → q < r .desk .opening .quarters → sumTo groups (λ (g : ℕ). bookFigure r run (groupRow g) q) ≡ outside h run q
-  pub plainSum : (run q : ℕ) → 1 ≤ run → run ≤ runs → q < r .desk .opening .quarters → sumTo groups (λ (g : ℕ). figure h run (groupRow g) q) ≡ outside h run q
+  pub log : take (4 * r .desk .frame .used) (r .stores .log) ≡ logNumbers (logOf h)
+  pub figures : (run k q : ℕ) → 1 ≤ run → run ≤ runs → k < runRows → q < r .desk .frame .opening .quarters → bookFigure r run k q ≡ figure h run k q
+  pub sum : (run q : ℕ) → 1 ≤ run → run ≤ runs → q < r .desk .frame .opening .quarters → sumTo groups (λ (g : ℕ). bookFigure r run (groupRow g) q) ≡ outside h run q
+  pub plainSum : (run q : ℕ) → 1 ≤ run → run ≤ runs → q < r .desk .frame .opening .quarters → sumTo groups (λ (g : ℕ). figure h run (groupRow g) q) ≡ outside h run q
 
 -- demand 3: one claim on every list
 abbrev pub Agreement : Type 0

@@ -56,18 +56,6 @@ theBook = record { values = false; book = true; log = false }
 abbrev pub noStore : Taken
 noStore = record { values = false; book = false; log = false }
 
--- "Open, submit and notice take all three stores, assign and show the book, the rest none"
-abbrev pub takes : Call → Taken
-takes (opens q f c k gs) = everyStore
-takes (activates p k a b d) = noStore
-takes (deactivates p d) = noStore
-takes (submits p x d es) = everyStore
-takes (notices p x y d) = everyStore
-takes (assigns a g d) = theBook
-takes (shows r g) = theBook
-takes (asks p x) = noStore
-takes (settles r d) = noStore
-
 -- a call with the stores that are lent to it
 pub record Lent : Type 0 where
   pub call : Call

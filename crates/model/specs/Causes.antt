@@ -17,9 +17,10 @@ use Rattle.state.specs.Version.{newVersion, isAt, held}
 use Rattle.state.specs.declared.Held.{Held}
 use Rattle.state.specs.declared.Held.the-variants.{Absent, Has}
 use Rattle.state.specs.declared.Opening.{Opening}
-use Rattle.model.specs.Call.{Call, opens, activates, deactivates, submits, notices, assigns, shows, asks, settles, Lengths, Taken, takes, Told}
+use Rattle.model.specs.Call.{Call, opens, activates, deactivates, submits, notices, assigns, shows, asks, settles, Lengths, Taken, everyStore, theBook, noStore, Told}
 use Rattle.model.specs.Log.{due}
 use Rattle.model.specs.View.{View}
+use Rattle.model.specs.declared.Asks.{Asks}
 use Rattle.model.specs.declared.Cause.{Cause}
 use Rattle.model.specs.declared.Cause.the-variants.{NotOpen, WrongLength, BadField, OpenAgain, BadOpening, PastDay, AfterCorrection, AfterClearing, PointActive, SameSeries, NotActive, HasVersion, TooEarly, VersionPresent, VersionBelow, NoVersion, NotCheckData, NoRow, NoLogRow, SettleTooEarly, AlreadySettled, FirstRunOpen}
 use Rattle.model.specs.declared.Due.{Due}
@@ -86,12 +87,12 @@ noticeOk p x y d = pointOk p && (versionOk x && (leb y 1 && dayOk d))
 -- "no such version"
 unfoldable pub isAbsent : Held → Bool
 isAbsent Absent = true
-isAbsent (Has i s) = false
+isAbsent (Has i v) = false
 
 -- "notice: status not 1"
 unfoldable pub notCheck : Held → Bool
 notCheck Absent = true
-notCheck (Has i s) = not (isCheck s)
+notCheck (Has i v) = not (isCheck (v .status))
 
 -- "a log row is due and none is left"
 abbrev pub logFull : (used log : ℕ) → Due → Bool
@@ -102,82 +103,186 @@ logFull n log (Row r) = ltb log (4 * (n + 1))
 abbrev pub deadline : Opening → (run : ℕ) → ℕ
 deadline o run = cond (eqb run 1) (o .clearing .0) (o .correction .0)
 
--- the table, for each call the causes that fit it, from top to bottom
+-- what a call asks of the desk: a point, a version, a series
+abbrev pub asking : (point version kind area partner : ℕ) → Asks
+asking p x k a b = record { point = record { 0 = p }; version = record { 0 = x }; kind = k; area = a; partner = b }
+
+-- nothing
+abbrev pub askingNothing : Asks
+askingNothing = asking 0 0 0 0 0
+
+-- ---- what a call is
+
+pub record Terms : Type 0 where
+  -- "(all but open)"
+  pub opening : Bool
+  -- "Open, submit and notice take all three stores, assign and show the book, the rest none"
+  pub takes : Taken
+  -- Q of the book that it is lent: an opening's own, else the desk's
+  pub quarters : (desk : ℕ) → ℕ
+  -- "An accepted call with a day sets it.": the day then, from the one before
+  pub day : (before : ℕ) → ℕ
+  -- what it asks of the desk's tables
+  pub asks : Asks
+  -- "only those that fit the call": the causes, from top to bottom
+  pub rules : View → Lengths → List Rule
+
+-- one table: a record for each call
+abbrev pub terms : Call → Terms
+terms (opens q f c k gs) =
+    record {
+      opening = true;
+      takes = everyStore;
+      quarters = λ m. q;
+      day = λ e. e;
+      asks = askingNothing;
+      rules = λ v n.
+          rule (isOpen (v .frame .opening)) OpenAgain
+          (rule (not (opensOk (openingBy q f c k n) gs)) BadOpening
+          []);
+    }
+terms (activates p k a b d) =
+    record {
+      opening = false;
+      takes = noStore;
+      quarters = λ m. m;
+      day = λ e. d;
+      asks = asking p 0 k a b;
+      rules = λ v n.
+          rule (not (isOpen (v .frame .opening))) NotOpen
+          (rule (not (pointOk p && (dayOk d && seriesOk k a b))) BadField
+          (rule (ltb d (v .frame .day .0)) PastDay
+          (rule (ltb (v .frame .opening .correction .0) d) AfterCorrection
+          (rule (isActive (pointAt (v .points) p)) PointActive
+          (rule (any (hasSeries k a b) (v .points)) SameSeries
+          [])))));
+    }
+terms (deactivates p d) =
+    record {
+      opening = false;
+      takes = noStore;
+      quarters = λ m. m;
+      day = λ e. d;
+      asks = asking p 0 0 0 0;
+      rules = λ v n.
+          rule (not (isOpen (v .frame .opening))) NotOpen
+          (rule (not (pointOk p && dayOk d)) BadField
+          (rule (ltb d (v .frame .day .0)) PastDay
+          (rule (ltb (v .frame .opening .correction .0) d) AfterCorrection
+          (rule (not (isActive (pointAt (v .points) p))) NotActive
+          (rule (any (isAt p) (v .versions)) HasVersion
+          [])))));
+    }
+terms (submits p x d es) =
+    record {
+      opening = false;
+      takes = everyStore;
+      quarters = λ m. m;
+      day = λ e. d;
+      asks = asking p x 0 0 0;
+      rules = λ v n.
+          rule (not (isOpen (v .frame .opening))) NotOpen
+          (rule (otherLengths everyStore n (v .frame .opening)) WrongLength
+          (rule (not (submitOk p x d (v .frame .opening .quarters) es)) BadField
+          (rule (ltb d (v .frame .day .0)) PastDay
+          (rule (ltb (v .frame .opening .correction .0) d) AfterCorrection
+          (rule (not (isActive (pointAt (v .points) p))) NotActive
+          (rule (ltb d (sinceOf (pointAt (v .points) p) + 2)) TooEarly
+          (rule (not (isAbsent (held p x (v .versions)))) VersionPresent
+          (rule (ltb x (highest p (v .versions))) VersionBelow
+          (rule (leb versions (length (v .versions)) || ltb (v .frame .opening .values) ((length (v .versions) + 1) * v .frame .opening .quarters)) NoRow
+          (rule
+          (logFull (v .frame .used) (v .frame .opening .log)
+          (due (v .versions) (submitted (newVersion (v .frame .opening .first .0) (length (v .versions)) p x d) (v .versions)) p d)) NoLogRow
+          []))))))))));
+    }
+terms (notices p x y d) =
+    record {
+      opening = false;
+      takes = everyStore;
+      quarters = λ m. m;
+      day = λ e. d;
+      asks = asking p x 0 0 0;
+      rules = λ v n.
+          rule (not (isOpen (v .frame .opening))) NotOpen
+          (rule (otherLengths everyStore n (v .frame .opening)) WrongLength
+          (rule (not (noticeOk p x y d)) BadField
+          (rule (ltb d (v .frame .day .0)) PastDay
+          (rule (ltb (v .frame .opening .correction .0) d) AfterCorrection
+          (rule (not (isActive (pointAt (v .points) p))) NotActive
+          (rule (isAbsent (held p x (v .versions))) NoVersion
+          (rule (notCheck (held p x (v .versions))) NotCheckData
+          (rule
+          (logFull (v .frame .used) (v .frame .opening .log)
+          (due (v .versions) (noticed (v .frame .opening .clearing .0) p x y d (v .versions)) p d)) NoLogRow
+          []))))))));
+    }
+terms (assigns a g d) =
+    record {
+      opening = false;
+      takes = theBook;
+      quarters = λ m. m;
+      day = λ e. d;
+      asks = askingNothing;
+      rules = λ v n.
+          rule (not (isOpen (v .frame .opening))) NotOpen
+          (rule (otherLengths theBook n (v .frame .opening)) WrongLength
+          (rule (not (deltaOk a && (groupOk g && dayOk d))) BadField
+          (rule (ltb d (v .frame .day .0)) PastDay
+          (rule (ltb (v .frame .opening .clearing .0) d) AfterClearing
+          []))));
+    }
+terms (shows r g) =
+    record {
+      opening = false;
+      takes = theBook;
+      quarters = λ m. m;
+      day = λ e. e;
+      asks = askingNothing;
+      rules = λ v n.
+          rule (not (isOpen (v .frame .opening))) NotOpen
+          (rule (otherLengths theBook n (v .frame .opening)) WrongLength
+          (rule (not (runOk r && groupOk g)) BadField
+          []));
+    }
+terms (asks p x) =
+    record {
+      opening = false;
+      takes = noStore;
+      quarters = λ m. m;
+      day = λ e. e;
+      asks = asking p x 0 0 0;
+      rules = λ v n.
+          rule (not (isOpen (v .frame .opening))) NotOpen
+          (rule (not (pointOk p && versionOk x)) BadField
+          (rule (not (isActive (pointAt (v .points) p))) NotActive
+          (rule (isAbsent (held p x (v .versions))) NoVersion
+          [])));
+    }
+terms (settles r d) =
+    record {
+      opening = false;
+      takes = noStore;
+      quarters = λ m. m;
+      day = λ e. d;
+      asks = askingNothing;
+      rules = λ v n.
+          rule (not (isOpen (v .frame .opening))) NotOpen
+          (rule (not (runOk r && dayOk d)) BadField
+          (rule (ltb d (v .frame .day .0)) PastDay
+          (rule (leb d (deadline (v .frame .opening) r)) SettleTooEarly
+          (rule (flagOf r (v .frame .settled)) AlreadySettled
+          (rule (eqb r 2 && not (flagOf 1 (v .frame .settled))) FirstRunOpen
+          [])))));
+    }
+
+-- the stores that a call takes; one that it does not take may be any, and is not looked at
+abbrev pub takes : Call → Taken
+takes c = terms c .takes
+
+-- "the table, for each call the causes that fit it"
 abbrev pub rules : View → Lengths → Call → List Rule
-rules v n (opens q f c k gs) =
-    rule (isOpen (v .opening)) OpenAgain
-    (rule (not (opensOk (openingBy q f c k n) gs)) BadOpening
-    [])
-rules v n (activates p k a b d) =
-    rule (not (isOpen (v .opening))) NotOpen
-    (rule (not (pointOk p && (dayOk d && seriesOk k a b))) BadField
-    (rule (ltb d (v .day)) PastDay
-    (rule (ltb (v .opening .correction .0) d) AfterCorrection
-    (rule (isActive (pointAt (v .points) p)) PointActive
-    (rule (any (hasSeries k a b) (v .points)) SameSeries
-    [])))))
-rules v n (deactivates p d) =
-    rule (not (isOpen (v .opening))) NotOpen
-    (rule (not (pointOk p && dayOk d)) BadField
-    (rule (ltb d (v .day)) PastDay
-    (rule (ltb (v .opening .correction .0) d) AfterCorrection
-    (rule (not (isActive (pointAt (v .points) p))) NotActive
-    (rule (any (isAt p) (v .versions)) HasVersion
-    [])))))
-rules v n (submits p x d es) =
-    rule (not (isOpen (v .opening))) NotOpen
-    (rule (otherLengths (takes (submits p x d es)) n (v .opening)) WrongLength
-    (rule (not (submitOk p x d (v .opening .quarters) es)) BadField
-    (rule (ltb d (v .day)) PastDay
-    (rule (ltb (v .opening .correction .0) d) AfterCorrection
-    (rule (not (isActive (pointAt (v .points) p))) NotActive
-    (rule (ltb d (sinceOf (pointAt (v .points) p) + 2)) TooEarly
-    (rule (not (isAbsent (held p x (v .versions)))) VersionPresent
-    (rule (ltb x (highest p (v .versions))) VersionBelow
-    (rule (leb versions (length (v .versions)) || ltb (v .opening .values) ((length (v .versions) + 1) * v .opening .quarters)) NoRow
-    (rule
-    (logFull (v .used) (v .opening .log)
-    (due (v .versions) (submitted (newVersion (v .opening .first .0) (length (v .versions)) p x d) (v .versions)) p d)) NoLogRow
-    []))))))))))
-rules v n (notices p x y d) =
-    rule (not (isOpen (v .opening))) NotOpen
-    (rule (otherLengths (takes (notices p x y d)) n (v .opening)) WrongLength
-    (rule (not (noticeOk p x y d)) BadField
-    (rule (ltb d (v .day)) PastDay
-    (rule (ltb (v .opening .correction .0) d) AfterCorrection
-    (rule (not (isActive (pointAt (v .points) p))) NotActive
-    (rule (isAbsent (held p x (v .versions))) NoVersion
-    (rule (notCheck (held p x (v .versions))) NotCheckData
-    (rule
-    (logFull (v .used) (v .opening .log)
-    (due (v .versions) (noticed (v .opening .clearing .0) p x y d (v .versions)) p d)) NoLogRow
-    []))))))))
-rules v n (assigns a g d) =
-    rule (not (isOpen (v .opening))) NotOpen
-    (rule (otherLengths (takes (assigns a g d)) n (v .opening)) WrongLength
-    (rule (not (deltaOk a && (groupOk g && dayOk d))) BadField
-    (rule (ltb d (v .day)) PastDay
-    (rule (ltb (v .opening .clearing .0) d) AfterClearing
-    []))))
-rules v n (shows r g) =
-    rule (not (isOpen (v .opening))) NotOpen
-    (rule (otherLengths (takes (shows r g)) n (v .opening)) WrongLength
-    (rule (not (runOk r && groupOk g)) BadField
-    []))
-rules v n (asks p x) =
-    rule (not (isOpen (v .opening))) NotOpen
-    (rule (not (pointOk p && versionOk x)) BadField
-    (rule (not (isActive (pointAt (v .points) p))) NotActive
-    (rule (isAbsent (held p x (v .versions))) NoVersion
-    [])))
-rules v n (settles r d) =
-    rule (not (isOpen (v .opening))) NotOpen
-    (rule (not (runOk r && dayOk d)) BadField
-    (rule (ltb d (v .day)) PastDay
-    (rule (leb d (deadline (v .opening) r)) SettleTooEarly
-    (rule (flagOf r (v .settled)) AlreadySettled
-    (rule (eqb r 2 && not (flagOf 1 (v .settled))) FirstRunOpen
-    [])))))
+rules v n c = terms c .rules v n
 
 -- what the table says of a call on an honest desk
 unfoldable pub refusal : View → Told → Verdict

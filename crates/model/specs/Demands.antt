@@ -70,16 +70,16 @@ pub record DemandOne (d : Desk) (l : Lent) : Type 0 where
 pub record DemandTwo (s : Stores) (l : List Lent) : Type 0 where
   pub answers : replies (fresh s) l ≡ plainReplies [] (map told l)
   pub statuses : (p x : ℕ) → held p x (versionsIn (end (fresh s) l .desk)) ≡ held p x (versionsOf (plainEnd [] (map told l)))
-  pub log : take (4 * end (fresh s) l .desk .used) (end (fresh s) l .stores .log) ≡ logNumbers (logOf (plainEnd [] (map told l)))
-  pub figures : (run k q : ℕ) → 1 ≤ run → run ≤ runs → k < runRows → q < end (fresh s) l .desk .opening .quarters → bookFigure (end (fresh s) l) run k q ≡ figure (plainEnd [] (map told l)) run k q
+  pub log : take (4 * end (fresh s) l .desk .frame .used) (end (fresh s) l .stores .log) ≡ logNumbers (logOf (plainEnd [] (map told l)))
+  pub figures : (run k q : ℕ) → 1 ≤ run → run ≤ runs → k < runRows → q < end (fresh s) l .desk .frame .opening .quarters → bookFigure (end (fresh s) l) run k q ≡ figure (plainEnd [] (map told l)) run k q
 
 -- two outcomes of a desk, with stores s and t, that have the same answer, desk and log row
 pub record Alike (d : Desk) (s t : Stores) (o p : Outcome) : Type 0 where
   pub answer : o .answer ≡ p .answer
   pub desk : o .desk ≡ p .desk
   pub row : Due
-  pub log : o .stores .log ≡ logged (d .used) row (s .log)
-  pub otherLog : p .stores .log ≡ logged (d .used) row (t .log)
+  pub log : o .stores .log ≡ logged (d .frame .used) row (s .log)
+  pub otherLog : p .stores .log ≡ logged (d .frame .used) row (t .log)
 
 -- "Answer numbers, statuses and log rows never depend on what the stores hold": only on their lengths
 abbrev pub Blind : Type 0

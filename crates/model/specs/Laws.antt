@@ -8,6 +8,8 @@ use lib.ListN.{length}
 use Rattle.state.specs.Selection.{own}
 use Rattle.state.specs.Status.{isCheck}
 use Rattle.state.specs.Version.{recordAt, restatus, isVersion}
+use Rattle.state.specs.declared.Selection.{Selection}
+use Rattle.state.specs.declared.Selection.the-variants.{None, Selected}
 use Rattle.state.specs.declared.Status.{Status}
 use Rattle.state.specs.declared.VersionRecord.{VersionRecord}
 use Rattle.model.specs.Causes.{Rule}
@@ -38,6 +40,14 @@ pub record Confirms (p x : ℕ) (s : Status) (vs ws : List VersionRecord) : Type
   pub restates : Restates at s vs ws
 
 -- "A call that changes run 1's selection or run 2's own adds one log row.": it changes one of the two, and of one point
-pub record OwesOne (p : ℕ) (vs ws : List VersionRecord) : Type 0 where
-  pub elsewhere : (r i : ℕ) → (i ≡ p → ⊥) → own r i ws ≡ own r i vs
-  pub one : (own 1 p ws ≡ own 1 p vs) ⊎ (own 2 p ws ≡ own 2 p vs)
+pub record OwesOne (vs ws : List VersionRecord) : Type 0 where
+  pub point : ℕ
+  pub elsewhere : (r i : ℕ) → (i ≡ point → ⊥) → own r i ws ≡ own r i vs
+  pub one : (own 1 point ws ≡ own 1 point vs) ⊎ (own 2 point ws ≡ own 2 point vs)
+
+-- no other selection: the same row of the version table, by index and number
+abbrev pub SameRow : Selection → Selection → Type 0
+SameRow None None = Unit {0}
+SameRow None (Selected s) = ⊥
+SameRow (Selected r) None = ⊥
+SameRow (Selected r) (Selected s) = (r .at ≡ s .at) × (r .version .0 ≡ s .version .0)

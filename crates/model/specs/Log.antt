@@ -12,29 +12,35 @@ use Rattle.state.specs.declared.VersionRow.{VersionRow}
 use Rattle.model.specs.declared.Due.{Due}
 use Rattle.model.specs.declared.Due.the-variants.{Nothing, Row}
 use Rattle.model.specs.declared.LogRow.{LogRow}
+use Rattle.model.specs.declared.Turn.{Turn}
 
 -- the same row of the version table
 abbrev pub sameRow : VersionRow → VersionRow → Bool
 sameRow r s = eqb (r .at) (s .at) && eqb (r .version .0) (s .version .0)
 
--- another version is selected than before; a restated status is no change
+-- another version is selected than before: its index or its number is another; a restated status is no change
 unfoldable pub differ : Selection → Selection → Bool
 differ None None = false
 differ None (Selected s) = true
 differ (Selected r) None = true
 differ (Selected r) (Selected s) = not (sameRow r s)
 
+-- run 1's selection and run 2's own for a point, before and after a change of the versions
+abbrev pub turnOf : (before after : List VersionRecord) (point : ℕ) → Turn
+turnOf vs ws p = record { old1 = own 1 p vs; new1 = own 1 p ws; old2 = own 2 p vs; new2 = own 2 p ws }
+
 -- "day, point, run, new version"
 abbrev pub logRow : (day point run : ℕ) → Selection → LogRow
-logRow d p run s = record { day = d; point = p; run = run; version = versionOf s }
+logRow d p run s = record { day = record { 0 = d }; point = record { 0 = p }; run = run; version = record { 0 = versionOf s } }
 
--- from run 1's selection and run 2's own, before and after
-abbrev pub dueBy : (old₁ new₁ old₂ new₂ : Selection) (point day : ℕ) → Due
-dueBy o₁ n₁ o₂ n₂ p d = cond (differ o₁ n₁) (Row (logRow d p 1 n₁)) (cond (differ o₂ n₂) (Row (logRow d p 2 n₂)) Nothing)
+-- the row that a turn makes due
+abbrev pub dueBy : Turn → (point day : ℕ) → Due
+dueBy t p d =
+    cond (differ (t .old1) (t .new1)) (Row (logRow d p 1 (t .new1))) (cond (differ (t .old2) (t .new2)) (Row (logRow d p 2 (t .new2))) Nothing)
 
 -- the row that a change of the versions of a point makes due
 unfoldable pub due : (before after : List VersionRecord) (point day : ℕ) → Due
-due vs ws p d = dueBy (own 1 p vs) (own 1 p ws) (own 2 p vs) (own 2 p ws) p d
+due vs ws p d = dueBy (turnOf vs ws p) p d
 
 -- the log rows with the one that is due at their end
 abbrev pub addRow : Due → List LogRow → List LogRow
@@ -43,7 +49,7 @@ addRow (Row r) l = l ++ (r ∷ [])
 
 -- a row as four numbers of the log
 abbrev pub logWords : LogRow → List ℕ
-logWords r = r .day ∷ r .point ∷ r .run ∷ r .version ∷ []
+logWords r = r .day .0 ∷ r .point .0 ∷ r .run ∷ r .version .0 ∷ []
 
 -- the rows as they stand in the log
 unfoldable pub logNumbers : List LogRow → List ℕ

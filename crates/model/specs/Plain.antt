@@ -2,14 +2,14 @@
 -- The list stands newest first: what "joins the end" is put in front, and each definition says what the last call makes of what the calls
 -- before it gave, so it goes through the list from its start.
 use Prim.Native.Nat.{ℕ, zero, suc}
-use mathlib.Core.Bool.{false}
 use mathlib.Core.List.{List, [], _∷_, _++_}
 use lib.IntN.{ℤ}
 use lib.ListN.{length, set, replicate}
 use Rattle.quantity.specs.Limits.{points, deltas}
+use Rattle.quantity.specs.Lists.{fold}
 use Rattle.book.specs.Place.{groupRow}
 use Rattle.state.specs.Change.{submitted, noticed, settledBy}
-use Rattle.state.specs.Desk.{unopened, flagged}
+use Rattle.state.specs.Desk.{unopened, noRun, frameOf, flagged}
 use Rattle.state.specs.Point.{freePoint, activePoint, withPoint}
 use Rattle.state.specs.Version.{newVersion, held}
 use Rattle.state.specs.declared.Opening.{Opening}
@@ -17,7 +17,7 @@ use Rattle.state.specs.declared.PointRecord.{PointRecord}
 use Rattle.state.specs.declared.Runs.{Runs}
 use Rattle.state.specs.declared.VersionRecord.{VersionRecord}
 use Rattle.model.specs.Call.{Call, opens, activates, deactivates, submits, notices, assigns, shows, asks, settles, Lengths, Told, Reply}
-use Rattle.model.specs.Causes.{openingBy, refusal}
+use Rattle.model.specs.Causes.{terms, openingBy, refusal}
 use Rattle.model.specs.Log.{due, addRow}
 use Rattle.model.specs.Series.{figureOf, outsideOf}
 use Rattle.model.specs.Step.{statusAnswer}
@@ -28,167 +28,126 @@ use Rattle.model.specs.declared.LogRow.{LogRow}
 use Rattle.model.specs.declared.Verdict.{Verdict}
 use Rattle.model.specs.declared.Verdict.the-variants.{Fine, Refuse}
 
--- what a call sets: each thing as it is after the call, from what it was; `point` is the one whose versions it may change, 0 for none
-pub record Sets : Type 0 where
-  pub opening : Lengths → Opening → Opening
-  pub day : ℕ → ℕ
-  pub points : List PointRecord → List PointRecord
-  pub groups : List ℕ → List ℕ
-  pub point : ℕ
-  pub versions : Opening → List VersionRecord → List VersionRecord
-  pub energies : List (List ℤ) → List (List ℤ)
-  pub settled : Runs → Runs
+-- what the plain desk works out: the opening, the day, the points, the delta groups, the versions, the energies of the submissions in their
+-- order, the log rows, the runs settled
+pub record Worked : Type 0 where
+  pub opening : Opening
+  pub day : ℕ
+  pub points : List PointRecord
+  pub groups : List ℕ
+  pub versions : List VersionRecord
+  pub energies : List (List ℤ)
+  pub log : List LogRow
+  pub settled : Runs
 
--- nothing
-abbrev pub setsNothing : Sets
-setsNothing =
-    record {
-      opening = λ n o. o;
-      day = λ e. e;
-      points = λ ps. ps;
-      groups = λ gs. gs;
-      point = 0;
-      versions = λ o vs. vs;
-      energies = λ es. es;
-      settled = λ s. s;
-    }
+-- the same of its parts
+abbrev pub worked : Opening → (day : ℕ) → List PointRecord → (groups : List ℕ) → List VersionRecord → List (List ℤ) → List LogRow → Runs → Worked
+worked o d ps gs vs es l r = record { opening = o; day = d; points = ps; groups = gs; versions = vs; energies = es; log = l; settled = r }
 
--- the opening and the delta groups
-abbrev pub setsOpening : (Lengths → Opening) → (groups : List ℕ) → Sets
-setsOpening f gs =
-    record {
-      opening = λ n o. f n;
-      day = λ e. e;
-      points = λ ps. ps;
-      groups = λ hs. gs;
-      point = 0;
-      versions = λ o vs. vs;
-      energies = λ es. es;
-      settled = λ s. s;
-    }
+-- "one list, empty at first"
+abbrev pub nothingYet : Worked
+nothingYet = worked unopened 0 (replicate points freePoint) (replicate deltas 0) [] [] [] noRun
 
--- the day and a point
-abbrev pub setsPoint : (day point : ℕ) → PointRecord → Sets
-setsPoint d p r =
-    record {
-      opening = λ n o. o;
-      day = λ e. d;
-      points = λ ps. withPoint ps p r;
-      groups = λ gs. gs;
-      point = 0;
-      versions = λ o vs. vs;
-      energies = λ es. es;
-      settled = λ s. s;
-    }
+-- what a call sets
+pub data Setting : Type 0 where
+  opened : Opening → (groups : List ℕ) → Setting
+  dated : (day : ℕ) → Setting
+  placed : (point : ℕ) → PointRecord → Setting
+  allotted : (area group : ℕ) → Setting
+  delivered : (point version : ℕ) (energies : List ℤ) → Setting
+  judged : (point version verdict : ℕ) → Setting
+  settledIn : (run : ℕ) → Setting
 
--- the day and a delta's group
-abbrev pub setsGroup : (day area group : ℕ) → Sets
-setsGroup d a g =
-    record {
-      opening = λ n o. o;
-      day = λ e. d;
-      points = λ ps. ps;
-      groups = λ gs. set gs a g;
-      point = 0;
-      versions = λ o vs. vs;
-      energies = λ es. es;
-      settled = λ s. s;
-    }
+-- "A call that changes run 1's selection or run 2's own adds one log row.": other versions of a point
+abbrev pub withVersions : (point : ℕ) → List VersionRecord → Worked → Worked
+withVersions p ws w =
+    worked (w .opening) (w .day) (w .points) (w .groups) ws (w .energies) (addRow (due (w .versions) ws p (w .day)) (w .log)) (w .settled)
 
--- the day and a point's versions, perhaps with a submission's energies
-abbrev pub setsVersions : (day point : ℕ) → (Opening → List VersionRecord → List VersionRecord) → (List (List ℤ) → List (List ℤ)) → Sets
-setsVersions d p f g =
-    record {
-      opening = λ n o. o;
-      day = λ e. d;
-      points = λ ps. ps;
-      groups = λ gs. gs;
-      point = p;
-      versions = f;
-      energies = g;
-      settled = λ s. s;
-    }
+-- one submission's energies more
+abbrev pub withEnergies : List ℤ → Worked → Worked
+withEnergies es w = worked (w .opening) (w .day) (w .points) (w .groups) (w .versions) (w .energies ++ (es ∷ [])) (w .log) (w .settled)
 
--- the day, the statuses and a run's flag
-abbrev pub setsRun : (day run : ℕ) → Sets
-setsRun d r =
-    record {
-      opening = λ n o. o;
-      day = λ e. d;
-      points = λ ps. ps;
-      groups = λ gs. gs;
-      point = 0;
-      versions = λ o vs. settledBy r vs;
-      energies = λ es. es;
-      settled = λ s. flagged r s;
-    }
+-- one setting more. "The opening gives Q, deadlines and store lengths." "A point is active from activation to deactivation." "A delta's group is
+-- the one set last." "Each submission makes a version that takes a row of values; its status comes from its day, then from later notices and
+-- settles by the rules above."
+abbrev pub setIn : Worked → Setting → Worked
+setIn w (opened o gs) = worked o (w .day) (w .points) gs (w .versions) (w .energies) (w .log) (w .settled)
+setIn w (dated d) = worked (w .opening) d (w .points) (w .groups) (w .versions) (w .energies) (w .log) (w .settled)
+setIn w (placed p r) = worked (w .opening) (w .day) (withPoint (w .points) p r) (w .groups) (w .versions) (w .energies) (w .log) (w .settled)
+setIn w (allotted a g) = worked (w .opening) (w .day) (w .points) (set (w .groups) a g) (w .versions) (w .energies) (w .log) (w .settled)
+setIn w (delivered p x es) =
+    withEnergies es (withVersions p (submitted (newVersion (w .opening .first .0) (length (w .versions)) p x (w .day)) (w .versions)) w)
+setIn w (judged p x y) = withVersions p (noticed (w .opening .clearing .0) p x y (w .day) (w .versions)) w
+setIn w (settledIn r) = worked (w .opening) (w .day) (w .points) (w .groups) (settledBy r (w .versions)) (w .energies) (w .log) (flagged r (w .settled))
 
--- one line a call. "Each submission makes a version that takes a row of values; its status comes from its day, then from later notices
--- and settles by the rules above." "A point is active from activation to deactivation."
-abbrev pub sets : Call → Sets
-sets (opens q f c k gs) = setsOpening (openingBy q f c k) gs
-sets (activates p k a b d) = setsPoint d p (activePoint k a b d)
-sets (deactivates p d) = setsPoint d p freePoint
-sets (submits p x d es) =
-    setsVersions d p (λ o vs. submitted (newVersion (o .first .0) (length vs) p x d) vs) (λ l. l ++ (es ∷ []))
-sets (notices p x y d) = setsVersions d p (λ o vs. noticed (o .clearing .0) p x y d vs) (λ l. l)
-sets (assigns a g d) = setsGroup d a g
-sets (shows r g) = setsNothing
-sets (asks p x) = setsNothing
-sets (settles r d) = setsRun d r
+-- beside its day, one line a call
+abbrev pub sets : Told → List Setting
+sets t = setsBy (t .lengths) (t .call)
+  where
+    setsBy : Lengths → Call → List Setting
+    setsBy n (opens q f c k gs) = opened (openingBy q f c k n) gs ∷ []
+    setsBy n (activates p k a b d) = placed p (activePoint k a b d) ∷ []
+    setsBy n (deactivates p d) = placed p freePoint ∷ []
+    setsBy n (submits p x d es) = delivered p x es ∷ []
+    setsBy n (notices p x y d) = judged p x y ∷ []
+    setsBy n (assigns a g d) = allotted a g ∷ []
+    setsBy n (shows r g) = []
+    setsBy n (asks p x) = []
+    setsBy n (settles r d) = settledIn r ∷ []
 
--- "The opening gives Q, deadlines and store lengths."
-unfoldable pub openingOf : List Told → Opening
-openingOf [] = unopened
-openingOf (t ∷ h) = sets (t .call) .opening (t .lengths) (openingOf h)
+-- "The day is that of the last call with one, or 0."; then what else the call sets
+unfoldable pub after : Told → Worked → Worked
+after t w = fold setIn (setIn w (dated (terms (t .call) .day (w .day)))) (sets t)
 
--- "The day is that of the last call with one, or 0."
-unfoldable pub dayOf : List Told → ℕ
-dayOf [] = 0
-dayOf (t ∷ h) = sets (t .call) .day (dayOf h)
+-- "All else is worked out by going through the list from its start."
+unfoldable pub workedOut : List Told → Worked
+workedOut [] = nothingYet
+workedOut (t ∷ h) = after t (workedOut h)
 
--- "A point is active from activation to deactivation."
-unfoldable pub pointsOf : List Told → List PointRecord
-pointsOf [] = replicate points freePoint
-pointsOf (t ∷ h) = sets (t .call) .points (pointsOf h)
+-- the opening that the list gives
+abbrev pub openingOf : List Told → Opening
+openingOf h = workedOut h .opening
 
--- "A delta's group is the one set last."
-unfoldable pub groupsOf : List Told → List ℕ
-groupsOf [] = replicate deltas 0
-groupsOf (t ∷ h) = sets (t .call) .groups (groupsOf h)
+-- its day
+abbrev pub dayOf : List Told → ℕ
+dayOf h = workedOut h .day
 
--- "Each submission makes a version"
-unfoldable pub versionsOf : List Told → List VersionRecord
-versionsOf [] = []
-versionsOf (t ∷ h) = sets (t .call) .versions (openingOf h) (versionsOf h)
+-- its points
+abbrev pub pointsOf : List Told → List PointRecord
+pointsOf h = workedOut h .points
 
--- the energies of the submissions, in their order
-unfoldable pub energiesOf : List Told → List (List ℤ)
-energiesOf [] = []
-energiesOf (t ∷ h) = sets (t .call) .energies (energiesOf h)
+-- its delta groups
+abbrev pub groupsOf : List Told → List ℕ
+groupsOf h = workedOut h .groups
 
--- "A call that changes run 1's selection or run 2's own adds one log row."
-unfoldable pub logOf : List Told → List LogRow
-logOf [] = []
-logOf (t ∷ h) =
-    addRow (due (versionsOf h) (sets (t .call) .versions (openingOf h) (versionsOf h)) (sets (t .call) .point) (sets (t .call) .day (dayOf h))) (logOf h)
+-- its versions
+abbrev pub versionsOf : List Told → List VersionRecord
+versionsOf h = workedOut h .versions
 
--- "settle: run already settled"
-unfoldable pub settledOf : List Told → Runs
-settledOf [] = record { first = false; second = false }
-settledOf (t ∷ h) = sets (t .call) .settled (settledOf h)
+-- its submissions' energies
+abbrev pub energiesOf : List Told → List (List ℤ)
+energiesOf h = workedOut h .energies
+
+-- its log rows
+abbrev pub logOf : List Told → List LogRow
+logOf h = workedOut h .log
+
+-- its settled runs
+abbrev pub settledOf : List Told → Runs
+settledOf h = workedOut h .settled
 
 -- what the table of causes looks at
-unfoldable pub viewIn : List Told → View
-viewIn h =
+abbrev pub viewBy : Worked → View
+viewBy w =
     record {
-      opening = openingOf h;
-      day = dayOf h;
-      points = pointsOf h;
-      versions = versionsOf h;
-      used = length (logOf h);
-      settled = settledOf h;
+      frame = frameOf (w .opening) (w .day) (w .groups) (length (w .versions)) (length (w .log)) (w .settled);
+      points = w .points;
+      versions = w .versions;
     }
+
+-- the same of the list
+unfoldable pub viewIn : List Told → View
+viewIn h = viewBy (workedOut h)
 
 -- the figure of a run, row k and quarter hour, counted from 0
 unfoldable pub figure : List Told → (run k quarter : ℕ) → ℤ

@@ -11,11 +11,11 @@ use Rattle.book.specs.Row.{back, part, splice}
 use Rattle.book.specs.declared.Way.{Way}
 use Rattle.book.specs.declared.Way.the-variants.{In, Out}
 use Rattle.state.specs.Change.{submitted, noticed, submittedDesk, noticedDesk, settledDesk}
-use Rattle.state.specs.Desk.{openDesk, versionsIn, rowsUsed, onDay, withGroups, withPoints, withUsed, withSettled, flagged}
+use Rattle.state.specs.Desk.{openDesk, versionsIn, rowsUsed, deskWith, theDay, theGroups, theUsed, theSettled, thePoints, flagged}
 use Rattle.state.specs.Point.{freePoint, activePoint, pointAt, withPoint}
-use Rattle.state.specs.Selection.{own, orElse}
+use Rattle.state.specs.Selection.{orElse}
 use Rattle.state.specs.Valid.{validDesk}
-use Rattle.state.specs.Version.{recordAt, newVersion, held}
+use Rattle.state.specs.Version.{newVersion, held}
 use Rattle.state.specs.declared.Desk.{Desk}
 use Rattle.state.specs.declared.Held.{Held}
 use Rattle.state.specs.declared.Held.the-variants.{Absent, Has}
@@ -23,61 +23,55 @@ use Rattle.state.specs.declared.Selection.{Selection}
 use Rattle.state.specs.declared.Selection.the-variants.{None, Selected}
 use Rattle.state.specs.declared.VersionRecord.{VersionRecord}
 use Rattle.model.specs.Call.{Call, opens, activates, deactivates, submits, notices, assigns, shows, asks, settles, Stores, Lent, Told, lengthsOf, told, Reply}
-use Rattle.model.specs.Causes.{Rule, rules, rule, firstOf, openingBy}
-use Rattle.model.specs.Log.{differ, due, logged, usedAfter}
+use Rattle.model.specs.Causes.{Rule, terms, rules, rule, firstOf, openingBy}
+use Rattle.model.specs.Log.{differ, turnOf, due, logged, usedAfter}
 use Rattle.model.specs.Series.{sidesOf}
 use Rattle.model.specs.View.{viewOf}
 use Rattle.model.specs.declared.Answer.{Answer}
 use Rattle.model.specs.declared.Answer.the-variants.{Accepted, HasStatus, Refused}
 use Rattle.model.specs.declared.Cause.the-variants.{NotOpen, NoVersion}
-use Rattle.model.specs.declared.Place.{Place}
-use Rattle.model.specs.declared.Place.the-variants.{Nowhere, At}
 use Rattle.model.specs.declared.Side.{Side}
 use Rattle.model.specs.declared.Side.the-variants.{Outside, Group, Delta}
 use Rattle.model.specs.declared.Sides.{Sides}
+use Rattle.model.specs.declared.Turn.{Turn}
 use Rattle.model.specs.declared.Verdict.{Verdict}
 use Rattle.model.specs.declared.Verdict.the-variants.{Fine, Refuse}
 
 -- ---- the book
 
--- "row i begins at i × Q": where a selected version's series stands in the values
-unfoldable pub placeOf : (quarters : ℕ) → List VersionRecord → Selection → Place
-placeOf q vs None = Nowhere
-placeOf q vs (Selected r) = At (recordAt vs (r .at) .row .0 * q)
-
--- a series into a row of the book, or out of it; "where a point has no selected version it adds nothing"
-unfoldable pub postFrom : Way → (book : List ℕ) (start quarters : ℕ) (values : List ℕ) → Place → List ℕ
-postFrom w book start q values Nowhere = book
-postFrom w book start q values (At i) = posted w book start q values i
+-- a selected version's series into a row of the book, or out of it: "row i begins at i × Q"; "where a point has no selected version it adds
+-- nothing"
+unfoldable pub postFrom : Way → (book : List ℕ) (start quarters : ℕ) (values : List ℕ) → Selection → List ℕ
+postFrom w book start q values None = book
+postFrom w book start q values (Selected r) = posted w book start q values (r .row .0 * q)
 
 -- row k of a run: the old series is taken back, and the new one posted
-unfoldable pub amendRow : Way → (run quarters k : ℕ) (old new : Place) (values : List ℕ) → List ℕ → List ℕ
+unfoldable pub amendRow : Way → (run quarters k : ℕ) (old new : Selection) (values : List ℕ) → List ℕ → List ℕ
 amendRow w run q k old new values book =
     postFrom w (postFrom (back w) book (rowStart q run k) q values old) (rowStart q run k) q values new
 
 -- each row of a side
-unfoldable pub amendSide : Way → (run quarters : ℕ) → Side → (old new : Place) (values : List ℕ) → List ℕ → List ℕ
+unfoldable pub amendSide : Way → (run quarters : ℕ) → Side → (old new : Selection) (values : List ℕ) → List ℕ → List ℕ
 amendSide w run q Outside old new values book = book
 amendSide w run q (Group g) old new values book = amendRow w run q g old new values book
 amendSide w run q (Delta x g) old new values book = amendRow w run q g old new values (amendRow w run q x old new values book)
 
 -- a series goes into its one side and out of the other
-unfoldable pub amendSides : (run quarters : ℕ) → Sides → (old new : Place) (values : List ℕ) → List ℕ → List ℕ
+unfoldable pub amendSides : (run quarters : ℕ) → Sides → (old new : Selection) (values : List ℕ) → List ℕ → List ℕ
 amendSides run q s old new values book = amendSide Out run q (s .from) old new values (amendSide In run q (s .to) old new values book)
 
--- a run's book where its selection for a point changes; vs has the rows of values of both
-unfoldable pub amendRun : (run quarters : ℕ) → Sides → List VersionRecord → (old new : Selection) (values : List ℕ) → List ℕ → List ℕ
-amendRun run q s vs old new values book =
-    cond (differ old new) (amendSides run q s (placeOf q vs old) (placeOf q vs new) values book) book
+-- a run's book where its selection for a point changes
+unfoldable pub amendRun : (run quarters : ℕ) → Sides → (old new : Selection) (values : List ℕ) → List ℕ → List ℕ
+amendRun run q s old new values book = cond (differ old new) (amendSides run q s old new values book) book
 
--- both runs, from run 1's selections and run 2's own before and after
-abbrev pub amendBy : (quarters : ℕ) → Sides → List VersionRecord → (old₁ new₁ old₂ new₂ : Selection) (values : List ℕ) → List ℕ → List ℕ
-amendBy q s vs o₁ n₁ o₂ n₂ values book =
-    amendRun 2 q s vs (orElse o₂ o₁) (orElse n₂ n₁) values (amendRun 1 q s vs o₁ n₁ values book)
+-- both runs
+abbrev pub amendBy : (quarters : ℕ) → Sides → Turn → (values : List ℕ) → List ℕ → List ℕ
+amendBy q s t values book =
+    amendRun 2 q s (orElse (t .old2) (t .old1)) (orElse (t .new2) (t .new1)) values (amendRun 1 q s (t .old1) (t .new1) values book)
 
 -- the book after a change of the versions of a point
 unfoldable pub amended : (quarters : ℕ) → Sides → (point : ℕ) (before after : List VersionRecord) (values : List ℕ) → List ℕ → List ℕ
-amended q s p vs ws values book = amendBy q s ws (own 1 p vs) (own 1 p ws) (own 2 p vs) (own 2 p ws) values book
+amended q s p vs ws values book = amendBy q s (turnOf vs ws p) values book
 
 -- "The delta moves to the group in both runs.": out of the old group's row, into the new one's
 unfoldable pub moveRun : (run quarters area old new : ℕ) → List ℕ → List ℕ
@@ -111,65 +105,53 @@ abbrev pub followed : Desk → Stores → (point day : ℕ) (after : List Versio
 followed d s p day ws values =
     record {
       values = values;
-      book = amended (d .opening .quarters) (sidesOf (d .groups) (pointAt (d .points) p)) p (versionsIn d) ws values (s .book);
-      log = logged (d .used) (due (versionsIn d) ws p day) (s .log);
+      book = amended (d .frame .opening .quarters) (sidesOf (d .frame .groups) (pointAt (d .points) p)) p (versionsIn d) ws values (s .book);
+      log = logged (d .frame .used) (due (versionsIn d) ws p day) (s .log);
     }
 
 -- the desk then: the log rows used, and the day
 abbrev pub followedDesk : (before : Desk) (point day : ℕ) (after : List VersionRecord) (changed : Desk) → Desk
-followedDesk d p day ws e = onDay (withUsed e (usedAfter (due (versionsIn d) ws p day) (d .used))) day
+followedDesk d p day ws e = deskWith (deskWith e (theUsed (usedAfter (due (versionsIn d) ws p day) (d .frame .used)))) (theDay day)
 
 -- the version that a submission makes: it takes "the next unused row of values"
 abbrev pub versionBy : Desk → (point version day : ℕ) → VersionRecord
-versionBy d p x day = newVersion (d .opening .first .0) (rowsUsed d) p x day
+versionBy d p x day = newVersion (d .frame .opening .first .0) (rowsUsed (d .frame)) p x day
 
 -- the version's status, if the point has it
 unfoldable pub statusAnswer : Held → Answer
 statusAnswer Absent = Refused NoVersion
-statusAnswer (Has i s) = HasStatus s
+statusAnswer (Has i v) = HasStatus (v .status)
 
 -- "The calls, in building order"
 abbrev pub granting : Desk → Stores → Call → Outcome
 granting d s (opens q f c k gs) = accept (openDesk (openingBy q f c k (lengthsOf s)) gs) (withBook s (replicate (bookRows * q) 0))
-granting d s (activates p k a b day) = accept (onDay (withPoints d (withPoint (d .points) p (activePoint k a b day))) day) s
-granting d s (deactivates p day) = accept (onDay (withPoints d (withPoint (d .points) p freePoint)) day) s
+granting d s (activates p k a b day) = accept (deskWith (deskWith d (thePoints (withPoint (d .points) p (activePoint k a b day)))) (theDay day)) s
+granting d s (deactivates p day) = accept (deskWith (deskWith d (thePoints (withPoint (d .points) p freePoint))) (theDay day)) s
 granting d s (submits p x day es) =
     let ws = submitted (versionBy d p x day) (versionsIn d) in
     accept
     (followedDesk d p day ws (submittedDesk d (versionBy d p x day)))
-    (followed d s p day ws (splice (s .values) (rowsUsed d * d .opening .quarters) (d .opening .quarters) (map word es)))
+    (followed d s p day ws (splice (s .values) (rowsUsed (d .frame) * d .frame .opening .quarters) (d .frame .opening .quarters) (map word es)))
 granting d s (notices p x y day) =
-    let ws = noticed (d .opening .clearing .0) p x y day (versionsIn d) in
+    let ws = noticed (d .frame .opening .clearing .0) p x y day (versionsIn d) in
     accept (followedDesk d p day ws (noticedDesk d (held p x (versionsIn d)) y day)) (followed d s p day ws (s .values))
 granting d s (assigns a g day) =
-    accept (onDay (withGroups d (set (d .groups) a g)) day) (withBook s (moved (d .opening .quarters) a (getD (d .groups) a 0) g (s .book)))
+    accept (deskWith (deskWith d (theGroups (set (d .frame .groups) a g))) (theDay day)) (withBook s (moved (d .frame .opening .quarters) a (getD (d .frame .groups) a 0) g (s .book)))
 granting d s (shows r g) =
     record {
       answer = Accepted;
-      part = part (s .book) (rowStart (d .opening .quarters) r (groupRow g)) (d .opening .quarters);
+      part = part (s .book) (rowStart (d .frame .opening .quarters) r (groupRow g)) (d .frame .opening .quarters);
       desk = d;
       stores = s;
     }
 granting d s (asks p x) = record { answer = statusAnswer (held p x (versionsIn d)); part = []; desk = d; stores = s }
-granting d s (settles r day) = accept (onDay (withSettled (settledDesk d r) (flagged r (d .settled))) day) s
+granting d s (settles r day) = accept (deskWith (deskWith (settledDesk d r) (theSettled (flagged r (d .frame .settled)))) (theDay day)) s
 
 -- ---- a step
 
--- "(all but open)"
-abbrev pub isOpening : Call → Bool
-isOpening (opens q f c k gs) = true
-isOpening (activates p k a b d) = false
-isOpening (deactivates p d) = false
-isOpening (submits p x d es) = false
-isOpening (notices p x y d) = false
-isOpening (assigns a g d) = false
-isOpening (shows r g) = false
-isOpening (asks p x) = false
-isOpening (settles r d) = false
-
 -- the lines of the table for a call, with cause 1 for any state above them
 abbrev pub lines : Desk → Told → List Rule
-lines d t = rule (not (isOpening (t .call)) && not (validDesk d)) NotOpen (rules (viewOf d) (t .lengths) (t .call))
+lines d t = rule (not (terms (t .call) .opening) && not (validDesk d)) NotOpen (rules (viewOf d) (t .lengths) (t .call))
 
 -- what they say
 unfoldable pub refusalBy : Desk → Told → Verdict

@@ -1,4 +1,10 @@
-// The types that document 01's definitions and the calls share: causes, answers, log rows, the sides of a series.
+// The types that document 01's definitions and the calls share: causes, answers, what a call asks, selections before and after, log rows, the
+// sides of a series.
+use quantity::Day;
+use quantity::PointNo;
+use quantity::Version;
+use state::Selection;
+use state::Status;
 
 // Why a call is refused, in the order of the table. A01 to A05 are the codes of the published decision trees.
 pub enum Cause {
@@ -51,7 +57,7 @@ pub enum Cause {
 // The answer of a call. An accepted status is a case of its own.
 pub enum Answer {
     Accepted,
-    HasStatus(state::Status),
+    HasStatus(Status),
     Refused(Cause),
 }
 
@@ -61,12 +67,29 @@ pub enum Verdict {
     Refuse(Cause),
 }
 
+// What a call asks of the desk: a point and a version, and for an activation its series; 0 where there is none.
+pub struct Asks {
+    pub point: PointNo,
+    pub version: Version,
+    pub kind: u64,
+    pub area: u64,
+    pub partner: u64,
+}
+
+// Run 1's selection and run 2's own for a point, before and after a call.
+pub struct Turn {
+    pub old1: Selection,
+    pub new1: Selection,
+    pub old2: Selection,
+    pub new2: Selection,
+}
+
 // A row of the log: day, point, run, new version.
 pub struct LogRow {
-    pub day: u64,
-    pub point: u64,
+    pub day: Day,
+    pub point: PointNo,
     pub run: u64,
-    pub version: u64,
+    pub version: Version,
 }
 
 // A log row, if one is due.
@@ -86,10 +109,4 @@ pub enum Side {
 pub struct Sides {
     pub to: Side,
     pub from: Side,
-}
-
-// Where the selected version's series begins in the values, if there is one.
-pub enum Place {
-    Nowhere,
-    At(u64),
 }
