@@ -1,4 +1,4 @@
 pub mod Filling
 pub mod Logs
-pub mod Selected
 pub mod SidesIn
+pub mod Within

@@ -1,29 +1,30 @@
--- What is asked of what is lent to be written: rows within the book, series within the values, room in the log.
+-- What is asked of what is lent to be written: rows within the book, series within the values, room in the log; and what follows a change.
 use mathlib.Core.Path.{_≡_}
+use mathlib.Core.Bool.{true}
 use mathlib.Core.List.{List}
 use Prim.Native.Nat.{ℕ, _+_, _*_, _^_, _≤_, _<_}
 use lib.ListN.{length}
-use Rattle.quantity.specs.Limits.{runs, runRows, bookRows, mostQuarters}
+use Rattle.quantity.specs.Limits.{runs, runRows, bookRows, mostQuarters, groupOk}
+use Rattle.quantity.specs.Lists.{all}
+use Rattle.state.specs.Valid.{stateOk}
+use Rattle.state.specs.declared.Frame.{Frame}
+use Rattle.state.specs.declared.PointState.{PointState}
+use Rattle.state.specs.declared.Selection.{Selection}
+use Rattle.state.specs.declared.Selection.the-variants.{None, Selected}
+use Rattle.model.specs.Log.{logged, usedAfter}
+use Rattle.model.specs.Series.{sidesOf}
+use Rattle.model.specs.Step.{amendBy}
 use Rattle.model.specs.declared.Due.{Due}
 use Rattle.model.specs.declared.Due.the-variants.{Nothing, Row}
-use Rattle.model.specs.declared.Place.{Place}
-use Rattle.model.specs.declared.Place.the-variants.{Nowhere, At}
 use Rattle.model.specs.declared.Side.{Side}
 use Rattle.model.specs.declared.Side.the-variants.{Outside, Group, Delta}
 use Rattle.model.specs.declared.Sides.{Sides}
-use Rattle.amend.specs.Rows.{placeAt, placeElse}
-use Rattle.amend.specs.declared.Turn.{Turn}
-use Rattle.amend.specs.declared.ValueRows.{ValueRows}
+use Rattle.model.specs.declared.Turn.{Turn}
 
--- a series of Q numbers within the values
-abbrev pub PlaceIn : (quarters : ℕ) (values : List ℕ) → Place → Type 0
-PlaceIn q values Nowhere = Unit {0}
-PlaceIn q values (At i) = i + q ≤ length values
-
--- a place that is a number of 64 bits
-abbrev pub PlaceFits : Place → Type 0
-PlaceFits Nowhere = Unit {0}
-PlaceFits (At i) = i < 2 ^ 64
+-- a selected version's series of Q numbers within the values
+abbrev pub SeriesIn : (quarters : ℕ) (values : List ℕ) → Selection → Type 0
+SeriesIn q values None = Unit {0}
+SeriesIn q values (Selected r) = r .row .0 * q + q ≤ length values
 
 -- the rows of a side are rows of a run
 abbrev pub SideIn : Side → Type 0
@@ -43,12 +44,12 @@ pub record BookIn (run quarters : ℕ) (book : List ℕ) : Type 0 where
   pub few : quarters ≤ mostQuarters
   pub whole : length book ≡ bookRows * quarters
 
--- the series of run 1's and run 2's selections, before and after
-pub record TurnIn (q : ℕ) (values : List ℕ) (r : ValueRows) (t : Turn) : Type 0 where
-  pub old1 : PlaceIn q values (placeAt q (r .old1) (t .old1))
-  pub new1 : PlaceIn q values (placeAt q (r .new1) (t .new1))
-  pub old2 : PlaceIn q values (placeElse q (r .old2) (r .old1) (t .old2) (t .old1))
-  pub new2 : PlaceIn q values (placeElse q (r .new2) (r .new1) (t .new2) (t .new1))
+-- the series of run 1's selections and of run 2's own, before and after
+pub record TurnIn (q : ℕ) (values : List ℕ) (t : Turn) : Type 0 where
+  pub old1 : SeriesIn q values (t .old1)
+  pub new1 : SeriesIn q values (t .new1)
+  pub old2 : SeriesIn q values (t .old2)
+  pub new2 : SeriesIn q values (t .new2)
 
 -- four numbers for a row that is due
 abbrev pub RoomIn : (used : ℕ) (log : List ℕ) → Due → Type 0
@@ -59,3 +60,17 @@ RoomIn n log (Row r) = 4 * n + 4 ≤ length log
 abbrev pub MoreIn : (used : ℕ) → Due → Type 0
 MoreIn n Nothing = Unit {0}
 MoreIn n (Row r) = n + 1 < 2 ^ 64
+
+-- a change of a point's versions, and the stores that are to follow
+pub record Changed (f : Frame) (here : PointState) (values book : List ℕ) (t : Turn) : Type 0 where
+  pub few : f .opening .quarters ≤ mostQuarters
+  pub allotted : all groupOk (f .groups) ≡ true
+  pub fit : stateOk here ≡ true
+  pub whole : length book ≡ bookRows * f .opening .quarters
+  pub turn : TurnIn (f .opening .quarters) values t
+
+-- the book, the log and its rows in use after the change
+pub record Followed (f : Frame) (here : PointState) (t : Turn) (due : Due) (values book log : List ℕ) (r : ℕ) (book′ log′ : List ℕ) : Type 0 where
+  pub booked : book′ ≡ amendBy (f .opening .quarters) (sidesOf (f .groups) here) t values book
+  pub noted : log′ ≡ logged (f .used) due log
+  pub counted : r ≡ usedAfter due (f .used)

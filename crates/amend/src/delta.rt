@@ -4,6 +4,8 @@ use crate::sides::group_row;
 use book::Way;
 use book::place::row_start;
 use book::posting::post;
+use quantity::limits::GROUPS;
+use quantity::limits::QUARTERS;
 ghost use mathlib.Core.Path.{_≡_};
 ghost use Prim.Native.Nat.{_≤_};
 ghost use Rattle.quantity.specs.Limits.{areas, groups};
@@ -16,8 +18,8 @@ fn move_run(run: usize, area: u64, old: u64, new: u64, q: usize, book: &mut [u64
     requires { ⌜ (area ≤ areas) × (old ≤ groups) × (new ≤ groups) ⌝ }
     ensures { λ _. ⌜ now (book .exit) ≡ moveRun run q area old new (now (book .entry)) ⌝ }
 {
-    let mut row = [0u64; 2980];
-    let from = row_start(run, (64 + area) as usize, q);
+    let mut row = [0u64; QUARTERS as usize];
+    let from = row_start(run, (GROUPS + area) as usize, q);
     let out = row_start(run, group_row(old) as usize, q);
     let to = row_start(run, group_row(new) as usize, q);
     copy_row(book, from, q, &mut row);

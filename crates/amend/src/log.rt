@@ -1,8 +1,10 @@
 // The log row that a change of a point's selections makes due.
-use crate::Turn;
 use crate::rows::differs;
 use model::Due;
 use model::LogRow;
+use model::Turn;
+use quantity::Day;
+use quantity::PointNo;
 use state::Selection;
 use state::selections::version_of;
 ghost use mathlib.Core.Path.{_≡_};
@@ -10,20 +12,20 @@ ghost use Prim.Native.Nat.{_+_, _*_};
 ghost use Rattle.model.specs.Log.{logRow, dueBy, logged, usedAfter};
 ghost use Rattle.amend.specs.Lent.{RoomIn, MoreIn};
 
-pub fn log_row(day: u64, point: u64, run: u64, s: Selection) -> LogRow
-    ensures { λ r. ⌜ r ≡ logRow day point run s ⌝ }
+pub fn log_row(day: Day, point: PointNo, run: u64, s: Selection) -> LogRow
+    ensures { λ r. ⌜ r ≡ logRow (day .0) (point .0) run s ⌝ }
 {
     let version = version_of(s);
     LogRow {
         day,
         point,
         run,
-        version: version.0,
+        version,
     }
 }
 
-pub fn due_by(t: Turn, point: u64, day: u64) -> Due
-    ensures { λ r. ⌜ r ≡ dueBy (t .old1) (t .new1) (t .old2) (t .new2) point day ⌝ }
+pub fn due_by(t: Turn, point: PointNo, day: Day) -> Due
+    ensures { λ r. ⌜ r ≡ dueBy t (point .0) (day .0) ⌝ }
 {
     let old1 = t.old1;
     let new1 = t.new1;
@@ -57,8 +59,8 @@ pub fn put_row(log: &mut [u64], used: usize, due: Due)
         return;
     };
     let at = 4 * used;
-    log[at] = r.day;
-    log[at + 1] = r.point;
+    log[at] = r.day.0;
+    log[at + 1] = r.point.0;
     log[at + 2] = r.run;
-    log[at + 3] = r.version;
+    log[at + 3] = r.version.0;
 }

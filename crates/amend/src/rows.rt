@@ -4,29 +4,38 @@ use book::place::row_start;
 use book::posting::post;
 use book::posting::repost;
 use book::row::opposite;
-use model::Place;
 use model::Side;
 use model::Sides;
 use state::Selection;
+use state::VersionRow;
 ghost use mathlib.Core.Path.{_≡_};
-ghost use Prim.Native.Nat.{_+_, _≤_, _<_};
+ghost use Prim.Native.Nat.{_+_, _*_, _^_, _≤_, _<_};
 ghost use lib.ListN.{length};
 ghost use Rattle.quantity.specs.Limits.{runRows};
 ghost use Rattle.book.specs.declared.Way.the-variants.{In, Out};
 ghost use Rattle.model.specs.Log.{differ};
 ghost use Rattle.model.specs.Step.{postFrom, amendRow, amendSide, amendSides};
-ghost use Rattle.amend.specs.Lent.{PlaceIn, BookIn, SideIn, SidesIn};
+ghost use Rattle.amend.specs.Lent.{SeriesIn, BookIn, SideIn, SidesIn};
 
-// A series posted to the row at a start; where there is none, the row stays.
-fn post_from(way: Way, book: &mut [u64], start: usize, q: usize, values: &[u64], from: Place)
-    requires { ⌜ start + q ≤ length (now book) ⌝ }
-    requires { ⌜ PlaceIn q (now values) from ⌝ }
-    ensures { λ _. ⌜ now (book .exit) ≡ postFrom way (now (book .entry)) start q (now (values .entry)) from ⌝ }
+// Where a version's series begins in the values: row i at i × Q.
+fn place(r: VersionRow, q: usize) -> usize
+    requires { ⌜ r .row .0 * q < 2 ^ 64 ⌝ }
+    ensures { λ n. ⌜ n ≡ r .row .0 * q ⌝ }
 {
-    let Place::At(at) = from else {
+    let row = r.row;
+    row.0 as usize * q
+}
+
+// A selected version's series posted to the row at a start; where there is none, the row stays.
+fn post_from(way: Way, book: &mut [u64], start: usize, q: usize, values: &[u64], s: Selection)
+    requires { ⌜ start + q ≤ length (now book) ⌝ }
+    requires { ⌜ SeriesIn q (now values) s ⌝ }
+    ensures { λ _. ⌜ now (book .exit) ≡ postFrom way (now (book .entry)) start q (now (values .entry)) s ⌝ }
+{
+    let Selection::Selected(r) = s else {
         return;
     };
-    post(way, book, start, q, values, at as usize);
+    post(way, book, start, q, values, place(r, q));
 }
 
 // Row k of a run: the old series is taken back, and the new one posted; in one pass where there are both.
@@ -35,25 +44,25 @@ fn amend_row(
     run: usize,
     k: u64,
     q: usize,
-    old: Place,
-    new: Place,
+    old: Selection,
+    new: Selection,
     values: &[u64],
     book: &mut [u64],
 )
     requires { ⌜ BookIn run q (now book) × (k < runRows) ⌝ }
-    requires { ⌜ PlaceIn q (now values) old × PlaceIn q (now values) new ⌝ }
+    requires { ⌜ SeriesIn q (now values) old × SeriesIn q (now values) new ⌝ }
     ensures { λ _. ⌜ now (book .exit) ≡ amendRow way run q k old new (now (values .entry)) (now (book .entry)) ⌝ }
 {
     let start = row_start(run, k as usize, q);
-    let Place::At(from) = old else {
+    let Selection::Selected(from) = old else {
         post_from(way, book, start, q, values, new);
         return;
     };
-    let Place::At(to) = new else {
-        post(opposite(way), book, start, q, values, from as usize);
+    let Selection::Selected(to) = new else {
+        post(opposite(way), book, start, q, values, place(from, q));
         return;
     };
-    repost(way, book, start, q, values, from as usize, to as usize);
+    repost(way, book, start, q, values, place(from, q), place(to, q));
 }
 
 // Each row of a side.
@@ -62,13 +71,13 @@ fn amend_side(
     run: usize,
     side: Side,
     q: usize,
-    old: Place,
-    new: Place,
+    old: Selection,
+    new: Selection,
     values: &[u64],
     book: &mut [u64],
 )
     requires { ⌜ BookIn run q (now book) × SideIn side ⌝ }
-    requires { ⌜ PlaceIn q (now values) old × PlaceIn q (now values) new ⌝ }
+    requires { ⌜ SeriesIn q (now values) old × SeriesIn q (now values) new ⌝ }
     ensures { λ _. ⌜ now (book .exit) ≡ amendSide way run q side old new (now (values .entry)) (now (book .entry)) ⌝ }
 {
     match side {
@@ -86,13 +95,13 @@ pub fn amend_sides(
     run: usize,
     sides: Sides,
     q: usize,
-    old: Place,
-    new: Place,
+    old: Selection,
+    new: Selection,
     values: &[u64],
     book: &mut [u64],
 )
     requires { ⌜ BookIn run q (now book) × SidesIn sides ⌝ }
-    requires { ⌜ PlaceIn q (now values) old × PlaceIn q (now values) new ⌝ }
+    requires { ⌜ SeriesIn q (now values) old × SeriesIn q (now values) new ⌝ }
     ensures { λ _. ⌜ now (book .exit) ≡ amendSides run q sides old new (now (values .entry)) (now (book .entry)) ⌝ }
 {
     let to = sides.to;

@@ -1,6 +1,8 @@
 // The sides of a point's series, by the table of series.
 use model::Side;
 use model::Sides;
+use quantity::limits::DELTAS;
+use quantity::limits::GROUPS;
 use state::PointState;
 ghost use mathlib.Core.Path.{_≡_};
 ghost use Prim.Native.Nat.{_≤_};
@@ -24,26 +26,26 @@ pub fn group_side(group: u64) -> Side
 }
 
 // An area's delta with its delta group; area 0 is T.
-fn delta_side(groups: [u64; 17], area: u64) -> Side
+fn delta_side(groups: [u64; DELTAS as usize], area: u64) -> Side
     requires { ⌜ area ≤ 255 ⌝ }
     ensures { λ r. ⌜ r ≡ deltaSide groups area ⌝ }
 {
-    if area < 17 {
+    if area < DELTAS {
         let i = area as usize;
         let group = groups[i];
         return Side::Delta {
-            delta: 64 + area,
+            delta: GROUPS + area,
             group: group_row(group),
         };
     }
     Side::Delta {
-        delta: 64 + area,
+        delta: GROUPS + area,
         group: 0,
     }
 }
 
 // What +v goes to.
-fn to_side(groups: [u64; 17], kind: u64, area: u64, partner: u64) -> Side
+fn to_side(groups: [u64; DELTAS as usize], kind: u64, area: u64, partner: u64) -> Side
     requires { ⌜ area ≤ 255 ⌝ }
     ensures { λ r. ⌜ r ≡ toSide groups kind area partner ⌝ }
 {
@@ -66,7 +68,7 @@ fn to_side(groups: [u64; 17], kind: u64, area: u64, partner: u64) -> Side
 }
 
 // What -v goes to. As a partner 0 is the outside, and not T.
-fn from_side(groups: [u64; 17], kind: u64, area: u64, partner: u64) -> Side
+fn from_side(groups: [u64; DELTAS as usize], kind: u64, area: u64, partner: u64) -> Side
     requires { ⌜ area ≤ 255 ⌝ }
     requires { ⌜ partner ≤ 255 ⌝ }
     ensures { λ r. ⌜ r ≡ fromSide groups kind area partner ⌝ }
@@ -92,7 +94,7 @@ fn from_side(groups: [u64; 17], kind: u64, area: u64, partner: u64) -> Side
     Side::Outside
 }
 
-pub fn sides_of(groups: [u64; 17], s: PointState) -> Sides
+pub fn sides_of(groups: [u64; DELTAS as usize], s: PointState) -> Sides
     ensures { λ r. ⌜ r ≡ sidesOf groups s ⌝ }
 {
     match s {

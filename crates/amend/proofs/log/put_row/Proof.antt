@@ -62,7 +62,7 @@ returns-2 : tie.Need-returns-2
 returns-2 c =
     let a = c .before .before .before .args in
     let r = c .before .due .given .0 .0 in
-    rw (c .before .due .given .1) (four-stored (r .day) (r .point) (r .run) (r .version) (a .log .now) (4 * a .used) (room c))
+    rw (c .before .due .given .1) (four-stored (r .day .0) (r .point .0) (r .run) (r .version .0) (a .log .now) (4 * a .used) (room c))
 
 pub put-row-spec : {M : Type 1} → statement M
 put-row-spec =
