@@ -5,20 +5,15 @@ pub mod surveys;
 
 use state::Held;
 use state::Selection;
-use state::VersionRecord;
 
 // What one walk over the versions finds: whether each record held is within its limits, the version asked for, and of the point asked for
-// the highest version, run 1's selection and run 2's own. `found` is the record of the version asked for, `row1` and `row2` are
-// the rows of values of the two selections; they are any where there is none.
+// the highest version, run 1's selection and run 2's own.
 pub struct Survey {
     pub fit: bool,
     pub held: Held,
     pub highest: Selection,
     pub first: Selection,
     pub second: Selection,
-    pub found: VersionRecord,
-    pub row1: u64,
-    pub row2: u64,
 }
 
 // What one walk over the points finds: whether each record is within its limits, and whether an active point has the kind, area and

@@ -1,6 +1,8 @@
 // The limits of the state, behind cause 1, for any state whatever.
 use quantity::Day;
 use quantity::PointNo;
+use quantity::limits::BOOK_ROWS;
+use quantity::limits::DELTAS;
 use quantity::limits::VERSIONS;
 use quantity::limits::area_ok;
 use quantity::limits::day_ok;
@@ -9,6 +11,7 @@ use quantity::limits::group_ok;
 use quantity::limits::point_ok;
 use quantity::limits::quarters_ok;
 use quantity::limits::version_ok;
+use state::Frame;
 use state::Opening;
 use state::PointRecord;
 use state::PointState;
@@ -18,8 +21,7 @@ ghost use Rattle.quantity.specs.Limits.{groupOk};
 ghost use Rattle.quantity.specs.Lists.{all};
 ghost use Rattle.state.specs.Desk.{rowsIn};
 ghost use Rattle.state.specs.Point.{seriesOk};
-ghost use Rattle.state.specs.Valid.{openingOk, pointRecordOk, versionRecordOk};
-ghost use Rattle.lookup.specs.Frame.{frameBy};
+ghost use Rattle.state.specs.Valid.{openingOk, pointRecordOk, versionRecordOk, frameOk};
 
 pub fn series_ok(kind: u64, area: u64, partner: u64) -> bool
     ensures { λ r. ⌜ r ≡ seriesOk kind area partner ⌝ }
@@ -75,14 +77,15 @@ pub fn opening_ok(o: Opening) -> bool
     if !quarters_ok(o.quarters) {
         return false;
     }
-    deadlines_ok(first, clearing, correction) & ((o.book == 162 * o.quarters) & (o.log % 4 == 0))
+    deadlines_ok(first, clearing, correction)
+        & ((o.book == BOOK_ROWS * o.quarters) & (o.log % 4 == 0))
 }
 
-pub fn groups_ok(groups: [u64; 17]) -> bool
+pub fn groups_ok(groups: [u64; DELTAS as usize]) -> bool
     ensures { λ r. ⌜ r ≡ all groupOk groups ⌝ }
 {
     let mut ok = true;
-    for i in 0..17usize {
+    for i in 0..DELTAS as usize {
         ok = ok & group_ok(groups[i]);
     }
     ok
@@ -99,12 +102,15 @@ pub fn rows_in(o: Opening) -> u64
 }
 
 // All but the two tables.
-pub fn frame_ok(opening: Opening, day: Day, groups: [u64; 17], count: u64, used: u64) -> bool
-    ensures { λ r. ⌜ r ≡ frameBy opening day groups count used ⌝ }
+pub fn frame_ok(f: Frame) -> bool
+    ensures { λ r. ⌜ r ≡ frameOk f ⌝ }
 {
+    let opening = f.opening;
+    let day = f.day;
+    let groups = f.groups;
     opening_ok(opening)
         & (day_ok(day)
             & (groups_ok(groups)
-                & ((count <= VERSIONS)
-                    & ((count <= rows_in(opening)) & (used <= opening.log / 4)))))
+                & ((f.count <= VERSIONS)
+                    & ((f.count <= rows_in(opening)) & (f.used <= opening.log / 4)))))
 }

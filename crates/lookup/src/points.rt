@@ -3,20 +3,21 @@ use crate::Scan;
 use crate::limits::point_record_ok;
 use quantity::Day;
 use quantity::PointNo;
+use quantity::limits::POINTS;
 use state::PointRecord;
 use state::PointState;
 ghost use mathlib.Core.Path.{_≡_};
 ghost use Rattle.state.specs.Point.{pointAt, isActive, sinceOf, isSeries};
 ghost use Rattle.lookup.specs.Survey.{Scanned};
 
-pub fn state_at(points: [PointRecord; 256], point: PointNo) -> PointState
+pub fn state_at(points: [PointRecord; POINTS as usize], point: PointNo) -> PointState
     ensures { λ r. ⌜ r ≡ pointAt points (point .0) ⌝ }
 {
     let number = point.0;
     if number == 0 {
         return PointState::Free;
     }
-    if 256 < number {
+    if POINTS < number {
         return PointState::Free;
     }
     let i = (number - 1) as usize;
@@ -67,12 +68,12 @@ pub fn is_series(s: PointState, kind: u64, area: u64, partner: u64) -> bool
     }
 }
 
-pub fn scan(points: [PointRecord; 256], kind: u64, area: u64, partner: u64) -> Scan
+pub fn scan(points: [PointRecord; POINTS as usize], kind: u64, area: u64, partner: u64) -> Scan
     ensures { λ r. ⌜ Scanned kind area partner points r ⌝ }
 {
     let mut fit = true;
     let mut taken = false;
-    for i in 0..256usize {
+    for i in 0..POINTS as usize {
         let p = points[i];
         let state = p.state;
         fit = fit & point_record_ok(p);

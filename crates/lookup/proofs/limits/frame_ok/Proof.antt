@@ -19,8 +19,9 @@ rows-in-requires c κs = search needs
 returns : tie.Need-returns
 unfolding frameOk
 returns c =
-    let g = c .before .before in
-    rw (g .before .before .opening-ok .ensures, g .before .day-ok .ensures, g .groups-ok .ensures, c .before .rows-in .ensures)
+    let n = c .before .before .before in
+    let g = n .before .before in
+    rw (g .before .before .opening-ok .ensures, g .before .day-ok .ensures, g .groups-ok .ensures, n .rows-in .ensures)
 
 pub frame-ok-spec : {M : Type 1} → statement M
 frame-ok-spec =

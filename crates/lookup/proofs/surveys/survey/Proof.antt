@@ -2,14 +2,14 @@
 use mathlib.Core.Logic.{⊎-elim}
 use Rattle.quantity.proofs.Lists.{length-of}
 use Rattle.state.proofs.Lists.{take-past}
-use Rattle.lookup.proofs.Found.{found-none, found-more, other-point, found-below, found-rows}
+use Rattle.lookup.proofs.Found.{found-none, found-more, other-point}
 use native.Mathlib.Omega.{arith}
 use Prim.Native.Nat.{_≤_, _<_, _-_}
 use mathlib.Core.Path.{_≡_, sym, _∙_}
 use lib.ListN.{length, take, getD}
 use borrow.Author.Needs.{needs}
-use Rattle.state.specs.Version.{emptyVersion, recordAt}
-use Rattle.lookup.specs.Survey.{fitted, surveyStep, Surveyed, foundAt, indexOf}
+use Rattle.state.specs.Version.{emptyVersion}
+use Rattle.lookup.specs.Survey.{fitted, surveyStep, Surveyed}
 use Rattle.lookup.proofs.surveys.survey.Statement.{statement}
 use Rattle.lookup.proofs.surveys.survey.Tie as tie
 
@@ -19,15 +19,12 @@ Inv-loop count rows point version versions fit₀ s₀ n i₀ fit s i = (i ≤ n
 abbrev μ-loop : tie.MeasureT-loop
 μ-loop count rows point version versions fit₀ s₀ n i₀ fit s i = n - i
 
-array-copy-out-s : tie.Need-array-copy-out-s Inv-loop μ-loop
-array-copy-out-s c = search needs
-
 loop-holds : tie.Need-loop-holds Inv-loop μ-loop
-loop-holds c = let a = c .before .before .args in
+loop-holds c = let a = c .before .args in
     let l : length (a .t1) ≡ 512 = search (needs, length-of) in
     let same : take (c .if1 .n) (a .t1) ≡ take (a .count) (a .t1) =
     ⊎-elim (λ w. let e : c .if1 .n ≡ a .count = omega arith in rw e) (λ w. take-past (a .t1) (c .if1 .n) (a .count) (omega arith) (omega arith)) (c .if1 .came) in
-    (omega arith, ⊎-elim (λ w. omega arith) (λ w. omega arith) (c .if1 .came), l, same, found-none (a .rows) (a .point .0) (a .version .0) (a .t1) (recordAt (a .t1) 0))
+    (omega arith, ⊎-elim (λ w. omega arith) (λ w. omega arith) (c .if1 .came), l, same, found-none (a .rows) (a .point .0) (a .version .0) (a .t1))
 
 mul-v : tie.Need-mul-v Inv-loop μ-loop
 mul-v c = search needs
@@ -54,7 +51,7 @@ loop-again : tie.Need-loop-again Inv-loop μ-loop
 loop-again c =
     let s = c .before .before .before .before in
     let l = s .before .loop in
-    let a = s .before .before .before .before .args in
+    let a = s .before .before .before .args in
     let v = getD (a .t1) (l .i) emptyVersion in
     let step : c .if2 .s ≡ surveyStep (a .point .0) (a .version .0) (l .s) (l .i) v =
     ⊎-elim (λ w. w .2 ∙ w .1 .ensures) (λ w. w .1 ∙ other-point (a .point .0) (a .version .0) (l .s) (l .i) v (sym (c .before .is-at .ensures) ∙ w .0 .left)) (c .if2 .came) in (
@@ -65,56 +62,11 @@ loop-again c =
       rw (step, c .before .before .version-record-ok .ensures) (found-more (a .rows) (a .point .0) (a .version .0) (a .t1) (l .fit) (l .s) (l .i) (omega arith) (l .inv .4)),
     )
 
--- what was found stands in the table
-below : (c : tie.After-loop Inv-loop μ-loop) → (foundAt (c .before .loop .s .held) < 512) × (indexOf (c .before .loop .s .first) < 512) × (indexOf (c .before .loop .s .second) < 512)
-below c =
-    let l = c .before .loop in
-    let a = c .before .before .before .before .args in
-    rw (l .inv .2) at (found-below (a .rows) (a .point .0) (a .version .0) (l .i) (a .t1) (fitted (l .fit) (l .s)) (l .inv .4) (omega (arith, l .inv .2)))
-
-found-at-requires : tie.Need-found-at-requires Inv-loop μ-loop
-found-at-requires c κs = search needs
-
-mul-s : tie.Need-mul-s Inv-loop μ-loop
-mul-s c = omega (arith, below (c .before) .0, c .found-at .ensures)
-
-array-copy-out-s-2 : tie.Need-array-copy-out-s-2 Inv-loop μ-loop
-array-copy-out-s-2 c = rw (c .found-at .ensures) (below (c .before) .0)
-
-index-of-requires : tie.Need-index-of-requires Inv-loop μ-loop
-index-of-requires c κs = search needs
-
-mul-v1 : tie.Need-mul-v1 Inv-loop μ-loop
-mul-v1 c = omega (arith, below (c .before .before .before) .1, c .index-of .ensures)
-
-array-copy-out-v1 : tie.Need-array-copy-out-v1 Inv-loop μ-loop
-array-copy-out-v1 c = rw (c .index-of .ensures) (below (c .before .before .before) .1)
-
-index-of-requires-2 : tie.Need-index-of-requires-2 Inv-loop μ-loop
-index-of-requires-2 c κs = search needs
-
-mul-v2 : tie.Need-mul-v2 Inv-loop μ-loop
-mul-v2 c = omega (arith, below (c .before .before .before .before .before) .2, c .index-of2 .ensures)
-
-array-copy-out-v2 : tie.Need-array-copy-out-v2 Inv-loop μ-loop
-array-copy-out-v2 c = rw (c .index-of2 .ensures) (below (c .before .before .before .before .before) .2)
-
-cast-s : tie.Need-cast-s Inv-loop μ-loop
-cast-s c = search needs
-
-cast-s-2 : tie.Need-cast-s-2 Inv-loop μ-loop
-cast-s-2 c = search needs
-
 returns : tie.Need-returns Inv-loop μ-loop
 returns c =
-    let k = c .before .before .before in
-    let s = k .before .before .before .before .before .before in
-    let l = s .loop in
-    let a = s .before .before .before .args in
-    let e : l .i ≡ s .before .if1 .n = omega arith in
-    let f = l .inv .4 in
-    let r = found-rows (a .rows) (a .point .0) (a .version .0) (l .i) (a .t1) (fitted (l .fit) (l .s)) f in
-    rw (← l .inv .3, ← e, k .before .before .before .before .found-at .ensures, k .before .before .index-of .ensures, k .index-of2 .ensures) (record { fit = f .fit; held = f .held; highest = f .highest; first = f .first; second = f .second }, record { found = r .0; first = r .1; second = r .2 })
+    let l = c .before .loop in
+    let e : l .i ≡ c .before .before .if1 .n = omega arith in
+    rw (← l .inv .3, ← e) (l .inv .4)
 
 pub survey-spec : {M : Type 1} → statement M
 survey-spec =
@@ -122,7 +74,6 @@ survey-spec =
     (tie.spec
     Inv-loop
     μ-loop
-    array-copy-out-s
     loop-holds
     mul-v
     array-copy-out-v
@@ -132,15 +83,4 @@ survey-spec =
     add-i
     loop-less
     loop-again
-    found-at-requires
-    mul-s
-    array-copy-out-s-2
-    index-of-requires
-    mul-v1
-    array-copy-out-v1
-    index-of-requires-2
-    mul-v2
-    array-copy-out-v2
-    cast-s
-    cast-s-2
     returns)

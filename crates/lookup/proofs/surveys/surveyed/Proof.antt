@@ -3,6 +3,9 @@ use borrow.Author.Needs.{needs}
 use Rattle.lookup.proofs.surveys.surveyed.Statement.{statement}
 use Rattle.lookup.proofs.surveys.surveyed.Tie as tie
 
+row-at-requires : tie.Need-row-at-requires
+row-at-requires c κs = search needs
+
 or-held-requires : tie.Need-or-held-requires
 or-held-requires c κs = search needs
 
@@ -36,12 +39,14 @@ returns c = let c2 = c .before .before in
       c1 .raised-if .ensures,
       c1 .before .is-at .ensures,
       c0 .or-held .ensures,
+      c0 .before .row-at .ensures,
     )
 
 pub surveyed-spec : {M : Type 1} → statement M
 surveyed-spec =
     tie.close
     (tie.spec
+    row-at-requires
     or-held-requires
     is-at-requires
     raised-if-requires
