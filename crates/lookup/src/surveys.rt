@@ -50,7 +50,7 @@ fn surveyed(s: Survey, at: u64, v: VersionRecord, point: PointNo, version: Versi
     }
 }
 
-// A record of another point is only asked whether it fits. A count above 512 means the whole table.
+// A record of another point is only asked whether it fits. A count past the table's end means the whole table.
 pub fn survey(
     versions: [VersionRecord; VERSIONS as usize],
     count: u64,

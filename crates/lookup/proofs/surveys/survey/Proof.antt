@@ -4,7 +4,7 @@ use Rattle.quantity.proofs.Lists.{length-of}
 use Rattle.state.proofs.Lists.{take-past}
 use Rattle.lookup.proofs.Found.{found-none, found-more, other-point}
 use native.Mathlib.Omega.{arith}
-use Prim.Native.Nat.{_≤_, _<_, _-_}
+use Prim.Native.Nat.{_≤_, _-_}
 use mathlib.Core.Path.{_≡_, sym, _∙_}
 use lib.ListN.{length, take, getD}
 use borrow.Author.Needs.{needs}
