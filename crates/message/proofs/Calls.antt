@@ -14,40 +14,25 @@ use Rattle.quantity.proofs.Tests.{and-left, and-right, and-both, within-low, wi
 use Rattle.message.specs.Read.{got, refused, onward}
 use Rattle.message.specs.Number.{areBytes, fitsNumber, decode, encode, numbersIn, encodeAll}
 use Rattle.message.specs.Energy.{sent, received, fitsEnergy}
-use Rattle.message.specs.Call.{Sent, kinds, submission, fieldCounts, fieldsOf, isKind, tailOf, print, countIn, energiesIn, seriesIn, tailIn, bodyIn, parse, Carried}
+use Rattle.message.specs.Call.{Sent, kinds, submission, fieldCounts, fieldsOf, mostFields, isKind, tailOf, print, countIn, energiesIn, seriesIn, tailIn, bodyIn, parse, Carried}
 use Rattle.message.specs.declared.FileCause.the-variants.{BadKind, TooLarge, NoRoom}
+use Rattle.message.proofs.ByKind.{by-kind, each-kind}
 use Rattle.message.proofs.Parsers.{refused-got, Came, came, comes, Behind, behind-none, behind-both, behind-less}
 use Rattle.message.proofs.Numbers.{decode-encode, encode-decode, decode-behind, encode-append, numbers-encode, bytes-rest, numbers-read, numbers-written}
 use Rattle.message.proofs.Energies.{series-back, series-forth, series-fits}
 
--- each kind has two fields or more, and none more than 21
+-- each kind has two fields or more, and none more than an opening
 pub fields-some : (k : ℕ) → isKind k ≡ true → 2 ≤ fieldsOf k
-fields-some k h = go k (within-low 1 kinds k h) (within-high 1 kinds k h)
-  where
-    go : (k : ℕ) → 1 ≤ k → k ≤ 7 → 2 ≤ fieldsOf k
-    go zero a b = absurd (omega arith)
-    go (suc zero) a b = omega arith
-    go (suc (suc zero)) a b = omega arith
-    go (suc (suc (suc zero))) a b = omega arith
-    go (suc (suc (suc (suc zero)))) a b = omega arith
-    go (suc (suc (suc (suc (suc zero))))) a b = omega arith
-    go (suc (suc (suc (suc (suc (suc zero)))))) a b = omega arith
-    go (suc (suc (suc (suc (suc (suc (suc zero))))))) a b = omega arith
-    go (suc (suc (suc (suc (suc (suc (suc (suc k)))))))) a b = absurd (omega arith)
-
-pub fields-few : (k : ℕ) → fieldsOf k ≤ 21
-fields-few zero = omega arith
-fields-few (suc zero) = omega arith
-fields-few (suc (suc zero)) = omega arith
-fields-few (suc (suc (suc zero))) = omega arith
-fields-few (suc (suc (suc (suc zero)))) = omega arith
-fields-few (suc (suc (suc (suc (suc zero))))) = omega arith
-fields-few (suc (suc (suc (suc (suc (suc zero)))))) = omega arith
-fields-few (suc (suc (suc (suc (suc (suc (suc zero))))))) = omega arith
-fields-few (suc (suc (suc (suc (suc (suc (suc (suc k)))))))) = omega arith
+fields-some =
+    each-kind (λ (k : ℕ). 2 ≤ fieldsOf k) (omega arith) (omega arith) (omega arith) (omega arith) (omega arith) (omega arith) (omega arith)
 
 pub fields-none : (k : ℕ) → kinds < k → 0 ≡ fieldsOf k
 fields-none k h = sym (List·getD-eq-default fieldCounts 0 {n = k} h)
+
+pub fields-few : (k : ℕ) → fieldsOf k ≤ mostFields
+fields-few =
+    by-kind (λ (k : ℕ). fieldsOf k ≤ mostFields) (omega arith) (omega arith) (omega arith) (omega arith) (omega arith) (omega arith) (omega arith) (omega arith)
+    (λ k h. omega (arith, fields-none k h))
 
 -- what was written is read
 tail-encode : (room k : ℕ) (es : List ℤ) (t : List ℕ) → length es ≤ mostQuarters → length es ≤ room → all fitsEnergy es ≡ true →

@@ -1,5 +1,7 @@
+pub mod ByKind
 pub mod Calls
 pub mod Energies
+pub mod Fields
 pub mod Files
 pub mod FileSteps
 pub mod Copying

@@ -19,18 +19,40 @@ pub record Sent : Type 0 where
   pub fields : List ℕ
   pub energies : List ℤ
 
--- "1 open, 2 activate, 3 deactivate, 4 submit, .. 5 notice, 6 assign, 7 settle"
-abbrev pub kinds : ℕ
-kinds = 7
+-- "1 open, 2 activate, 3 deactivate, 4 submit (with a count before the energies), 5 notice, 6 assign, 7 settle"
+abbrev pub opening : ℕ
+opening = 1
 
--- the kind of a submission: "with a count before the energies"
+abbrev pub activation : ℕ
+activation = 2
+
+abbrev pub deactivation : ℕ
+deactivation = 3
+
 abbrev pub submission : ℕ
 submission = 4
+
+abbrev pub noticing : ℕ
+noticing = 5
+
+abbrev pub assignment : ℕ
+assignment = 6
+
+abbrev pub settlement : ℕ
+settlement = 7
+
+-- the kinds are 1 to this one
+abbrev pub kinds : ℕ
+kinds = settlement
+
+-- an opening's fields before its delta groups: "Q, F, C, K"
+abbrev pub beforeGroups : ℕ
+beforeGroups = 4
 
 -- how many fields each kind has, from kind 0 on: "Q, F, C, K, 17 delta groups", "point, kind, area, partner, day", "point, day",
 -- "point, version, day", "point, version, verdict, day", "area, group, day", "run, day"
 abbrev pub fieldCounts : List ℕ
-fieldCounts = 0 ∷ (4 + deltas) ∷ 5 ∷ 2 ∷ 3 ∷ 4 ∷ 3 ∷ 2 ∷ []
+fieldCounts = 0 ∷ (beforeGroups + deltas) ∷ 5 ∷ 2 ∷ 3 ∷ 4 ∷ 3 ∷ 2 ∷ []
 
 -- how many fields a kind has
 abbrev pub fieldsOf : (kind : ℕ) → ℕ
@@ -38,7 +60,7 @@ fieldsOf k = getD fieldCounts k 0
 
 -- the most fields that a call has: those of an opening
 abbrev pub mostFields : ℕ
-mostFields = fieldsOf 1
+mostFields = fieldsOf opening
 
 -- "call kind not 1..7"
 abbrev pub isKind : ℕ → Bool

@@ -1,6 +1,7 @@
 // The kinds of calls and their fields.
-use crate::FileCall;
+use crate::DeskCall;
 use crate::FileCause;
+use crate::Named;
 use crate::NumberRead;
 use crate::number;
 use quantity::Day;
@@ -13,12 +14,31 @@ ghost use Rattle.message.specs.Call.{isKind, fieldsOf, countIn};
 ghost use Rattle.message.specs.Offset.{itself, numberOf};
 ghost use Rattle.message.specs.Named.{callOf, laterCallOf, groupsOf};
 
-pub const KINDS: u64 = 7;
+pub const OPENING: u64 = 1;
+
+pub const ACTIVATION: u64 = 2;
+
+pub const DEACTIVATION: u64 = 3;
 
 pub const SUBMISSION: u64 = 4;
 
+pub const NOTICE: u64 = 5;
+
+pub const ASSIGNMENT: u64 = 6;
+
+pub const SETTLEMENT: u64 = 7;
+
+// The kinds are 1 to this one.
+pub const KINDS: u64 = SETTLEMENT;
+
+// The fields of an opening before its delta groups: Q, F, C, K.
+pub const BEFORE_GROUPS: usize = 4;
+
+// The most fields that a call has: those of an opening.
+pub const MOST_FIELDS: usize = BEFORE_GROUPS + limits::DELTAS as usize;
+
 // How many fields a kind has, from kind 0 on.
-const FIELDS: [usize; 8] = [0, 21, 5, 2, 3, 4, 3, 2];
+const FIELDS: [usize; 1 + KINDS as usize] = [0, MOST_FIELDS, 5, 2, 3, 4, 3, 2];
 
 pub fn kind_ok(kind: u64) -> bool
     ensures { λ r. ⌜ r ≡ isKind kind ⌝ }
@@ -36,80 +56,82 @@ pub fn fields_of(kind: u64) -> usize
     0
 }
 
-// A call that was read, by its kind; what is no other kind is taken for the last.
-pub fn call_of(kind: u64, fields: [u64; 21], count: usize) -> FileCall
-    ensures { λ r. ⌜ r ≡ callOf kind fields count ⌝ }
+// The call of a kind with its fields.
+pub fn call_of(kind: u64, fields: [u64; MOST_FIELDS]) -> Named
+    ensures { λ r. ⌜ r ≡ callOf kind fields ⌝ }
 {
     let a = fields[0];
     let b = fields[1];
     let c = fields[2];
     let d = fields[3];
-    if kind == 1 {
-        return FileCall::Open {
+    if kind == OPENING {
+        return Named::Known(DeskCall::Open {
             quarters: a,
             first: Day(b),
             clearing: Day(c),
             correction: Day(d),
-        };
+        });
     }
-    if kind == 2 {
-        return FileCall::Activate {
+    if kind == ACTIVATION {
+        return Named::Known(DeskCall::Activate {
             point: PointNo(a),
             kind: b,
             area: c,
             partner: d,
             day: Day(fields[4]),
-        };
+        });
     }
-    later_call_of(kind, a, b, c, d, count)
+    later_call_of(kind, a, b, c, d)
 }
 
-fn later_call_of(kind: u64, a: u64, b: u64, c: u64, d: u64, count: usize) -> FileCall
-    ensures { λ r. ⌜ r ≡ laterCallOf kind a b c d count ⌝ }
+fn later_call_of(kind: u64, a: u64, b: u64, c: u64, d: u64) -> Named
+    ensures { λ r. ⌜ r ≡ laterCallOf kind a b c d ⌝ }
 {
-    if kind == 3 {
-        return FileCall::Deactivate {
+    if kind == DEACTIVATION {
+        return Named::Known(DeskCall::Deactivate {
             point: PointNo(a),
             day: Day(b),
-        };
+        });
     }
     if kind == SUBMISSION {
-        return FileCall::Submit {
+        return Named::Known(DeskCall::Submit {
             point: PointNo(a),
             version: Version(b),
             day: Day(c),
-            count,
-        };
+        });
     }
-    if kind == 5 {
-        return FileCall::Notice {
+    if kind == NOTICE {
+        return Named::Known(DeskCall::Notice {
             point: PointNo(a),
             version: Version(b),
             verdict: c,
             day: Day(d),
-        };
+        });
     }
-    if kind == 6 {
-        return FileCall::Assign {
+    if kind == ASSIGNMENT {
+        return Named::Known(DeskCall::Assign {
             area: a,
             group: b,
             day: Day(c),
-        };
+        });
     }
-    FileCall::Settle {
-        run: a,
-        day: Day(b),
+    if kind == SETTLEMENT {
+        return Named::Known(DeskCall::Settle {
+            run: a,
+            day: Day(b),
+        });
     }
+    Named::Unknown
 }
 
 // The 17 delta groups of an opening.
-pub fn groups_of(fields: [u64; 21]) -> [u64; 17]
+pub fn groups_of(fields: [u64; MOST_FIELDS]) -> [u64; limits::DELTAS as usize]
     ensures { λ r. ⌜ r ≡ groupsOf fields ⌝ }
 {
-    let mut groups = [0u64; 17];
+    let mut groups = [0u64; limits::DELTAS as usize];
     let mut i = 0;
-    while i < 17 {
-        groups[i] = fields[4 + i];
+    while i < limits::DELTAS as usize {
+        groups[i] = fields[BEFORE_GROUPS + i];
         i += 1;
     }
     groups

@@ -41,8 +41,8 @@ pub enum FileVerdict {
     Refused { cause: FileCause, offset: usize },
 }
 
-// A call by its kind. An opening's 17 delta groups stand beside it, and a submission's energies in the series buffer.
-pub enum FileCall {
+// A call of the desk by its kind, with its fields; an opening's 17 delta groups and a submission's energies stand beside it.
+pub enum DeskCall {
     Open {
         quarters: u64,
         first: Day,
@@ -64,7 +64,6 @@ pub enum FileCall {
         point: PointNo,
         version: Version,
         day: Day,
-        count: usize,
     },
     Notice {
         point: PointNo,
@@ -81,4 +80,10 @@ pub enum FileCall {
         run: u64,
         day: Day,
     },
+}
+
+// The call that a kind and fields are, or none of that kind.
+pub enum Named {
+    Known(DeskCall),
+    Unknown,
 }

@@ -12,8 +12,9 @@ use Rattle.message.specs.Read.{Read, got, refused}
 use Rattle.message.specs.Number.{numbersIn}
 use Rattle.message.specs.Energy.{received}
 use Rattle.message.specs.Call.{Sent, submission, fieldsOf, isKind, countIn, seriesIn, tailIn, kindIn, parse}
+use Rattle.message.specs.Named.{callOf, groupsOf}
 use Rattle.message.specs.Offset.{itself, numberOf, numberAt, passedOf}
-use Rattle.reader.specs.Reader.{padded, fieldsRead, without, readingOf, readAt, listOf, energiesOf, accepted, filled, seriesAfter}
+use Rattle.reader.specs.Reader.{padded, fieldsRead, without, readAs, readingOf, readAt, listOf, energiesOf, accepted, filled, seriesAfter}
 use Rattle.message.specs.declared.FileCause.{FileCause}
 use Rattle.message.specs.declared.FileCause.the-variants.{BadKind}
 use Rattle.message.specs.declared.NumberRead.{NumberRead}
@@ -21,7 +22,7 @@ use Rattle.message.specs.declared.NumberRead.the-variants.{Number, Refused as N
 use Rattle.message.specs.declared.Passed.the-variants.{To, Refused as NotPassed}
 use Rattle.reader.specs.declared.FieldsRead.{FieldsRead}
 use Rattle.reader.specs.declared.Reading.{Reading}
-use Rattle.reader.specs.declared.Step.the-variants.{Call, End, Refused}
+use Rattle.reader.specs.declared.Step.the-variants.{End, Refused}
 use Rattle.message.proofs.Numbers.{decode-none, numbers-read}
 use Rattle.message.proofs.Placed.{offset-is, Placed, passed-to, passed-not, number-not, found, found-not}
 use Rattle.message.proofs.CountSteps.{Counted}
@@ -95,7 +96,7 @@ module _ (s : List ℕ) («from» n : ℕ) (f : FieldsRead) (e : f ≡ fieldsRea
   pub fields-not : {x : FileCause} → f .passed ≡ NotPassed x → numbersIn n (drop «from» s) ≡ refused x
   fields-not q = passed-not (length s) (numbersIn n (drop «from» s)) (sym passed-is ∙ q)
 
--- what is answered of a call at an offset: the step, its fields, and the buffer
+-- what is answered of a call at an offset, and the buffer
 abbrev pub CallPost : List ℕ → ℕ → Read Sent → List ℕ → Reading → List ℕ → Type 0
 CallPost s at d series₀ r series = (r ≡ readingOf (length s) at d) × (series ≡ filled (energiesOf d) series₀)
 
@@ -118,15 +119,15 @@ module _ (s : List ℕ) (at «from» room k : ℕ) (known : isKind k ≡ true) {
 
     pub kind-ok : {v n : ℕ} (series₀ : List ℕ) {series : List ℕ} → numberOf length (length s) (tailIn room k (drop after s)) ≡ Number v n →
         series ≡ filled (listOf (tailIn room k (drop after s))) series₀ →
-        CallPost s at (kindIn room k (drop «from» s)) series₀ (record { step = Call k v n; fields = f .fields }) series
-    kind-ok {v} {n} series₀ {series} e q = go (tailIn room k (drop after s)) refl e q
+        {r : Reading} → r ≡ readAs at (callOf k (f .fields)) (groupsOf (f .fields)) v n → CallPost s at (kindIn room k (drop «from» s)) series₀ r series
+    kind-ok {v} {n} series₀ {series} e q {r} p = go (tailIn room k (drop after s)) refl e q
       where
         go : (d : Read (List ℤ)) → tailIn room k (drop after s) ≡ d → numberOf length (length s) d ≡ Number v n → series ≡ filled (listOf d) series₀ →
-            CallPost s at (kindIn room k (drop «from» s)) series₀ (record { step = Call k v n; fields = f .fields }) series
-        go (got es r) t e q =
-            let a : length es ≡ v = cc in
-            let b : length s - length r ≡ n = cc in
-            rw (known, sym count, w .is, t, sym a, sym b, w .padding) (refl, q)
+            CallPost s at (kindIn room k (drop «from» s)) series₀ r series
+        go (got es l) t e q =
+            let a : v ≡ length es = cc in
+            let b : n ≡ length s - length l = cc in
+            rw (known, sym count, w .is, t) (p ∙ rw (w .padding, a, b), q)
         go (refused x) t e q = absurd (let z : _≡_ {A = ℕ} 0 1 = cc in omega arith)
 
 -- the call at an offset

@@ -5,9 +5,14 @@ use mathlib.Core.List.{List, [], _++_, map}
 use lib.Dec.{eqb}
 use lib.IntN.{ℤ}
 use lib.ListN.{length, drop, replicate}
+use Rattle.quantity.specs.Limits.{deltas}
 use Rattle.quantity.specs.Word.{word}
 use Rattle.message.specs.Read.{Read, got, refused}
 use Rattle.message.specs.Call.{Sent, parse, mostFields}
+use Rattle.message.specs.Named.{callOf, groupsOf}
+use Rattle.message.specs.declared.FileCause.the-variants.{BadKind}
+use Rattle.message.specs.declared.Named.{Named}
+use Rattle.message.specs.declared.Named.the-variants.{Known, Unknown}
 use Rattle.message.specs.declared.Passed.the-variants.{To, Refused as NotPassed}
 use Rattle.reader.specs.declared.FieldsRead.{FieldsRead}
 use Rattle.reader.specs.declared.Reading.{Reading}
@@ -25,11 +30,16 @@ fieldsRead n (refused x) = record { passed = NotPassed x; fields = replicate mos
 
 -- an answer without a call
 abbrev pub without : Step → Reading
-without s = record { step = s; fields = replicate mostFields 0 }
+without s = record { step = s; groups = replicate deltas 0 }
+
+-- a call by its name, with how many energies and the offset behind it; "call kind not 1..7 33"
+abbrev pub readAs : (at : ℕ) → Named → (groups : List ℕ) (count next : ℕ) → Reading
+readAs at (Known d) groups n next = record { step = Call d n next; groups = groups }
+readAs at Unknown groups n next = without (Refused BadKind at)
 
 -- a call that was read in a file of so many bytes, or its refusal: "31 to 35 come with an offset, that of the refused call"
 abbrev pub readingOf : (length at : ℕ) → Read Sent → Reading
-readingOf n at (got c r) = record { step = Call (c .kind) (length (c .energies)) (n - length r); fields = padded (c .fields) }
+readingOf n at (got c r) = readAs at (callOf (c .kind) (padded (c .fields))) (groupsOf (padded (c .fields))) (length (c .energies)) (n - length r)
 readingOf n at (refused x) = without (Refused x at)
 
 -- the call at an offset: "At the file's end it answers that no call follows; a start beyond it is 31."

@@ -1,10 +1,14 @@
 // The reader: one call from a start in a lent file, with a lent series buffer.
+use message::DeskCall;
 use message::FileCause;
+use message::Named;
 use message::NumberRead;
 use message::Passed;
 use message::call;
+use message::call::MOST_FIELDS;
 use message::energy;
 use message::number;
+use quantity::limits::DELTAS;
 ghost use mathlib.Core.Path.{_≡_};
 ghost use mathlib.Core.Bool.{true};
 ghost use mathlib.Core.List.{map};
@@ -13,20 +17,21 @@ ghost use lib.ListN.{length, drop};
 ghost use Rattle.message.specs.Number.{numbersIn};
 ghost use Rattle.message.specs.Energy.{received};
 ghost use Rattle.message.specs.Call.{mostFields, seriesIn, tailIn, kindIn};
+ghost use Rattle.message.specs.Named.{callOf, groupsOf};
 ghost use Rattle.message.specs.Offset.{numberOf};
-ghost use Rattle.reader.specs.Reader.{fieldsRead, without, readingOf, readAt, listOf, energiesOf, accepted, filled, seriesAfter};
+ghost use Rattle.reader.specs.Reader.{fieldsRead, without, readAs, readingOf, readAt, listOf, energiesOf, accepted, filled, seriesAfter};
 
 // Fields that were passed, with 0 behind them.
 pub struct FieldsRead {
     pub passed: Passed,
-    pub fields: [u64; 21],
+    pub fields: [u64; MOST_FIELDS],
 }
 
 // What stands at an offset of a file.
 pub enum Step {
-    // A call, the count of its energies, and the offset behind it.
+    // A call, how many energies of it stand in the series buffer, and the offset behind it.
     Call {
-        kind: u64,
+        call: DeskCall,
         count: usize,
         next: usize,
     },
@@ -39,10 +44,10 @@ pub enum Step {
     },
 }
 
-// What stands at an offset, and a call's fields, with 0 behind them.
+// What stands at an offset, and the numbers behind a call's first four: an opening's delta groups.
 pub struct Reading {
     pub step: Step,
-    pub fields: [u64; 21],
+    pub groups: [u64; DELTAS as usize],
 }
 
 // The fields of a call, n of them.
@@ -50,7 +55,7 @@ fn read_fields(file: &[u8], at: usize, n: usize) -> FieldsRead
     requires { ⌜ (at ≤ length (now file)) × (n ≤ mostFields) ⌝ }
     ensures { λ r. ⌜ r ≡ fieldsRead (length (now (file .entry))) (numbersIn n (drop at (now (file .entry)))) ⌝ }
 {
-    let mut fields = [0u64; 21];
+    let mut fields = [0u64; MOST_FIELDS];
     let mut j = at;
     let mut i = 0;
     while i < n {
@@ -62,7 +67,7 @@ fn read_fields(file: &[u8], at: usize, n: usize) -> FieldsRead
             NumberRead::Refused(cause) => {
                 return FieldsRead {
                     passed: Passed::Refused(cause),
-                    fields: [0u64; 21],
+                    fields: [0u64; MOST_FIELDS],
                 };
             }
         }
@@ -133,7 +138,20 @@ fn refused(cause: FileCause, at: usize) -> Reading
 {
     Reading {
         step: Step::Refused { cause, offset: at },
-        fields: [0u64; 21],
+        groups: [0u64; DELTAS as usize],
+    }
+}
+
+// The call at `at`, whose fields and energies were read.
+fn read_as(at: usize, kind: u64, fields: [u64; MOST_FIELDS], count: usize, next: usize) -> Reading
+    ensures { λ r. ⌜ r ≡ readAs at (callOf kind fields) (groupsOf fields) count next ⌝ }
+{
+    match call::call_of(kind, fields) {
+        Named::Known(call) => Reading {
+            step: Step::Call { call, count, next },
+            groups: call::groups_of(fields),
+        },
+        Named::Unknown => refused(FileCause::BadKind, at),
     }
 }
 
@@ -151,14 +169,7 @@ fn read_kind(file: &[u8], at: usize, kind: u64, from: usize, series: &mut [u64])
     let fields = read.fields;
     match passed {
         Passed::To(after) => match read_tail(file, after, kind, series) {
-            NumberRead::Number { value, next } => Reading {
-                step: Step::Call {
-                    kind,
-                    count: value as usize,
-                    next,
-                },
-                fields: fields,
-            },
+            NumberRead::Number { value, next } => read_as(at, kind, fields, value as usize, next),
             NumberRead::Refused(cause) => refused(cause, at),
         },
         Passed::Refused(cause) => refused(cause, at),
@@ -172,7 +183,7 @@ pub fn read_call(file: &[u8], at: usize, series: &mut [u64]) -> Reading
     if at == file.len() {
         return Reading {
             step: Step::End,
-            fields: [0u64; 21],
+            groups: [0u64; DELTAS as usize],
         };
     }
     match number::read_number(file, at) {

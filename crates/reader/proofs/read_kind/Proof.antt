@@ -34,6 +34,9 @@ read-tail-requires c κs = fields-to (c .before .before .before .before .before 
 enum-known-value : tie.Need-enum-known-value
 enum-known-value c = search needs
 
+read-as-requires : tie.Need-read-as-requires
+read-as-requires c κs = search needs
+
 enum-known-cause : tie.Need-enum-known-cause
 enum-known-cause c = search needs
 
@@ -51,9 +54,9 @@ same-length c = search needs
 
 returns-2 : tie.Need-returns-2
 returns-2 c =
-    kind-ok (c .before .before .before .before .before .before .before .before .before .before .before .before .before .before .before .before .before .args .file .now) (c .before .before .before .before .before .before .before .before .before .before .before .before .before .before .before .before .before .args .at) (c .before .before .before .before .before .before .before .before .before .before .before .before .before .before .before .before .before .args .from) (length (c .before .before .before .before .before .before .before .before .before .before .before .before .before .before .before .before .before .args .series .now)) (c .before .before .before .before .before .before .before .before .before .before .before .before .before .before .before .before .before .args .kind) (sym (c .before .before .before .before .before .before .before .before .before .before .before .before .before .before .kind-ok .ensures) ∙ not-false _ (c .before .before .before .before .before .before .before .before .before .before .before .before .before .if1 .left)) (c .before .before .before .before .before .before .before .before .before .before .before .before .fields-of .ensures)
-    (fields-to (c .before .before .before .before .before .before .before .before .before .before .before .before .before .before .before .before .before .args .file .now) (c .before .before .before .before .before .before .before .before .before .before .before .before .before .before .before .before .before .args .from) _ (c .before .before .before .before .before .before .before .before .before .before .before .read-fields .result) (c .before .before .before .before .before .before .before .before .before .before .before .read-fields .ensures) (c .before .before .before .before .before .before .before .before .before .before .before .before .before .before .before .before .before .pre) (c .before .before .before .before .before .before .before .before .passed .given .1))
-    (c .before .before .before .before .before .before .before .before .before .before .before .before .before .before .before .before .before .args .series .now) (sym (c .before .before .before .before .before .read-tail .ensures .0) ∙ c .before .value .given .1) (c .before .before .before .before .before .read-tail .ensures .1)
+    kind-ok (c .before .before .before .before .before .before .before .before .before .before .before .before .before .before .before .before .before .before .args .file .now) (c .before .before .before .before .before .before .before .before .before .before .before .before .before .before .before .before .before .before .args .at) (c .before .before .before .before .before .before .before .before .before .before .before .before .before .before .before .before .before .before .args .from) (length (c .before .before .before .before .before .before .before .before .before .before .before .before .before .before .before .before .before .before .args .series .now)) (c .before .before .before .before .before .before .before .before .before .before .before .before .before .before .before .before .before .before .args .kind) (sym (c .before .before .before .before .before .before .before .before .before .before .before .before .before .before .before .kind-ok .ensures) ∙ not-false _ (c .before .before .before .before .before .before .before .before .before .before .before .before .before .before .if1 .left)) (c .before .before .before .before .before .before .before .before .before .before .before .before .before .fields-of .ensures)
+    (fields-to (c .before .before .before .before .before .before .before .before .before .before .before .before .before .before .before .before .before .before .args .file .now) (c .before .before .before .before .before .before .before .before .before .before .before .before .before .before .before .before .before .before .args .from) _ (c .before .before .before .before .before .before .before .before .before .before .before .before .read-fields .result) (c .before .before .before .before .before .before .before .before .before .before .before .before .read-fields .ensures) (c .before .before .before .before .before .before .before .before .before .before .before .before .before .before .before .before .before .before .pre) (c .before .before .before .before .before .before .before .before .before .passed .given .1))
+    (c .before .before .before .before .before .before .before .before .before .before .before .before .before .before .before .before .before .before .args .series .now) (sym (c .before .before .before .before .before .before .read-tail .ensures .0) ∙ c .before .before .value .given .1) (c .before .before .before .before .before .before .read-tail .ensures .1) (c .read-as .ensures)
 
 same-length-2 : tie.Need-same-length-2
 same-length-2 c = search needs
@@ -83,6 +86,7 @@ read-kind-spec =
     enum-known-passed
     read-tail-requires
     enum-known-value
+    read-as-requires
     enum-known-cause
     refused-requires-2
     enum-known-passed-2

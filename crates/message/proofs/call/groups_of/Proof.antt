@@ -5,6 +5,8 @@ use mathlib.Core.Path.{_≡_, refl, sym}
 use native.Mathlib.Omega.{arith}
 use lib.ListN.{length, length-drop}
 use lib.Seq.{getD-drop}
+use Rattle.quantity.specs.Limits.{deltas}
+use Rattle.message.specs.Call.{mostFields}
 use Rattle.message.specs.Named.{groupsOf}
 use Rattle.quantity.proofs.Lists.{length-of}
 use Rattle.message.proofs.Copying.{Copying, copying, copied-more, copied}
@@ -12,13 +14,13 @@ use Rattle.message.proofs.call.groups_of.Statement.{statement}
 use Rattle.message.proofs.call.groups_of.Tie as tie
 
 abbrev Inv-loop : tie.InvT-loop
-Inv-loop fields groups₀ i₀ groups i = Copying 17 (groupsOf fields) groups i
+Inv-loop fields groups₀ i₀ groups i = Copying deltas (groupsOf fields) groups i
 
 abbrev μ-loop : tie.MeasureT-loop
-μ-loop fields groups₀ i₀ groups i = 17 - i
+μ-loop fields groups₀ i₀ groups i = deltas - i
 
 loop-holds : tie.Need-loop-holds Inv-loop μ-loop
-loop-holds c = let n : length (c .args .t1) ≡ 21 = search (needs, length-of) in copying 17 _ _ (rw length-drop (omega arith)) refl
+loop-holds c = let n : length (c .args .t1) ≡ mostFields = search (needs, length-of) in copying deltas _ _ (rw length-drop (omega arith)) refl
 
 add-groups : tie.Need-add-groups Inv-loop μ-loop
 add-groups c = search needs

@@ -22,7 +22,11 @@ returns-4 c = rw (ne-eqb _ 3 (c .before .before .before .if1 .left), ne-eqb _ 4 
 
 returns-5 : tie.Need-returns-5
 unfolding laterCallOf
-returns-5 c = rw (ne-eqb _ 3 (c .before .before .before .if1 .left), ne-eqb _ 4 (c .before .before .if2 .left), ne-eqb _ 5 (c .before .if3 .left), ne-eqb _ 6 (c .if4 .left))
+returns-5 c = rw (ne-eqb _ 3 (c .before .before .before .before .if1 .left), ne-eqb _ 4 (c .before .before .before .if2 .left), ne-eqb _ 5 (c .before .before .if3 .left), ne-eqb _ 6 (c .before .if4 .left), eq-eqb _ 7 (c .if5 .taken))
+
+returns-6 : tie.Need-returns-6
+unfolding laterCallOf
+returns-6 c = rw (ne-eqb _ 3 (c .before .before .before .before .if1 .left), ne-eqb _ 4 (c .before .before .before .if2 .left), ne-eqb _ 5 (c .before .before .if3 .left), ne-eqb _ 6 (c .before .if4 .left), ne-eqb _ 7 (c .if5 .left))
 
 pub later-call-of-spec : {M : Type 1} → statement M
-later-call-of-spec = tie.close (tie.spec returns returns-2 returns-3 returns-4 returns-5)
+later-call-of-spec = tie.close (tie.spec returns returns-2 returns-3 returns-4 returns-5 returns-6)
