@@ -15,11 +15,12 @@ use Rattle.quantity.proofs.Tests.{and-left, and-right, within-high}
 use Rattle.message.specs.Number.{fitsNumber, encode, encodeAll}
 use Rattle.message.specs.Energy.{sent, fitsEnergy}
 use Rattle.message.specs.Call.{Sent, kinds, submission, fieldsOf, isKind, tailOf, numbersOf, print, tailSmall, small}
-use Rattle.writer.specs.Writer.{energiesFor, handed, sized, writtenIn, putIn, outputAfter}
+use Rattle.writer.specs.Writer.{energiesFor, handed, sized, notWritten, writtenIn, putIn, outputAfter}
+use Rattle.message.specs.declared.FileCause.{FileCause}
 use Rattle.message.specs.declared.FileCause.the-variants.{BadKind, TooLarge, NoRoom}
 use Rattle.writer.specs.declared.Sized.the-variants.{Bytes, TooLarge as NotSized}
 use Rattle.writer.specs.declared.Written.{Written}
-use Rattle.writer.specs.declared.Written.the-variants.{Length, Refused}
+use Rattle.writer.specs.declared.Written.the-variants.{Length}
 use Rattle.message.proofs.Numbers.{encode-append}
 use Rattle.message.proofs.Energies.{series-fits}
 use Rattle.message.proofs.Calls.{fields-few}
@@ -217,23 +218,27 @@ module _ (k : ℕ) (fields ws out : List ℕ) {n : ℕ} (count : n ≡ fieldsOf 
 abbrev pub WritePost : List ℕ → Sent → Written → List ℕ → Type 0
 WritePost out₀ c r out = (r ≡ writtenIn (length out₀) c) × (out ≡ outputAfter r c out₀)
 
-module _ (out₀ : List ℕ) (c : Sent) where
-  pub write-33 : isKind (c .kind) ≡ false → WritePost out₀ c (Refused BadKind) out₀
-  write-33 e = (rw e, refl)
+module _ (out₀ : List ℕ) (c : Sent) {r : Written} where
+  write-refused : {x : FileCause} → r ≡ notWritten x → writtenIn (length out₀) c ≡ notWritten x → WritePost out₀ c r out₀
+  write-refused e q = rw e (sym q, refl)
+
+  pub write-33 : r ≡ notWritten BadKind → isKind (c .kind) ≡ false → WritePost out₀ c r out₀
+  write-33 q e = write-refused q (rw e)
 
   module _ (known : isKind (c .kind) ≡ true) where
-    pub write-34 : sized (small c) (numbersOf c) ≡ NotSized → WritePost out₀ c (Refused TooLarge) out₀
-    write-34 e = (rw (known, sized-large (small c) (numbersOf c) e), refl)
+    pub write-34 : r ≡ notWritten TooLarge → sized (small c) (numbersOf c) ≡ NotSized → WritePost out₀ c r out₀
+    write-34 q e = write-refused q (rw (known, sized-large (small c) (numbersOf c) e))
 
-    module _ {n : ℕ} (size : sized (small c) (numbersOf c) ≡ Bytes n) where
-      pub write-35 : length out₀ < n → WritePost out₀ c (Refused NoRoom) out₀
-      write-35 h =
-          let l : length out₀ < length (print c) = omega (arith, sized-bytes (small c) (numbersOf c) size) in
-          (rw (known, sized-fits (small c) (numbersOf c) size, lt-ltb (length out₀) (length (print c)) l), refl)
+    pub write-35 : {n : ℕ} → r ≡ notWritten NoRoom → sized (small c) (numbersOf c) ≡ Bytes n → length out₀ < n → WritePost out₀ c r out₀
+    write-35 q size h =
+        let l : length out₀ < length (print c) = omega (arith, sized-bytes (small c) (numbersOf c) size) in
+        write-refused q (rw (known, sized-fits (small c) (numbersOf c) size, lt-ltb (length out₀) (length (print c)) l))
 
-      pub write-room : n ≤ length out₀ → length (print c) ≤ length out₀
-      write-room h = omega (arith, sized-bytes (small c) (numbersOf c) size)
+-- a call that has room
+module _ (out₀ : List ℕ) (c : Sent) (known : isKind (c .kind) ≡ true) {n : ℕ} (size : sized (small c) (numbersOf c) ≡ Bytes n) where
+  pub write-room : n ≤ length out₀ → length (print c) ≤ length out₀
+  write-room h = omega (arith, sized-bytes (small c) (numbersOf c) size)
 
-      pub write-ok : {r : ℕ} {out : List ℕ} → n ≤ length out₀ → (r ≡ length (print c)) × (out ≡ putIn out₀ 0 (print c)) → WritePost out₀ c (Length r) out
-      write-ok h p =
-          (ap Length (p .0) ∙ rw (known, sized-fits (small c) (numbersOf c) size, le-ltb (length out₀) (length (print c)) (write-room h)), p .1)
+  pub write-ok : {r : ℕ} {out : List ℕ} → n ≤ length out₀ → (r ≡ length (print c)) × (out ≡ putIn out₀ 0 (print c)) → WritePost out₀ c (Length r) out
+  write-ok h p =
+      (ap Length (p .0) ∙ rw (known, sized-fits (small c) (numbersOf c) size, le-ltb (length out₀) (length (print c)) (write-room h)), p .1)

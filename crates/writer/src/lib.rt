@@ -1,6 +1,7 @@
 // The writer: one call to the start of a lent output. The size is known before the first byte is written.
 use message::FileCause;
 use message::call;
+use message::call::MOST_FIELDS;
 use message::energy;
 use quantity::WattHours;
 use quantity::limits;
@@ -14,9 +15,8 @@ ghost use Rattle.quantity.specs.Lists.{all};
 ghost use Rattle.quantity.specs.Word.{signed};
 ghost use Rattle.message.specs.Number.{fitsNumber, encode, encodeAll};
 ghost use Rattle.message.specs.Energy.{sent};
-ghost use Rattle.message.specs.Call.{isKind, numbersOf, print, small, tailSmall, tailOf};
-ghost use Rattle.message.specs.Call.{mostFields};
-ghost use Rattle.writer.specs.Writer.{energiesFor, handed, sized, writtenIn, putIn, outputAfter};
+ghost use Rattle.message.specs.Call.{mostFields, isKind, numbersOf, print, small, tailSmall, tailOf};
+ghost use Rattle.writer.specs.Writer.{energiesFor, handed, sized, notWritten, writtenIn, putIn, outputAfter};
 
 // How many bytes numbers take, where a file can carry them.
 pub enum Sized {
@@ -24,10 +24,10 @@ pub enum Sized {
     TooLarge,
 }
 
-// How many bytes were written, or why nothing was.
+// How many bytes were written, or why nothing was, with the offset 0.
 pub enum Written {
     Length(usize),
-    Refused(FileCause),
+    Refused { cause: FileCause, offset: usize },
 }
 
 // The first number that a file cannot carry.
@@ -187,20 +187,26 @@ fn put_call(kind: u64, fields: &[u64], series: &[u64], output: &mut [u8]) -> usi
     put_tail(kind, series, output, tail)
 }
 
+fn refused(cause: FileCause) -> Written
+    ensures { λ r. ⌜ r ≡ notWritten cause ⌝ }
+{
+    Written::Refused { cause, offset: 0 }
+}
+
 // The call's bytes to the output's start: their count, or why nothing is written.
-pub fn write_call(kind: u64, fields: [u64; 21], series: &[u64], output: &mut [u8]) -> Written
+pub fn write_call(kind: u64, fields: [u64; MOST_FIELDS], series: &[u64], output: &mut [u8]) -> Written
     ensures { λ r. ⌜ (r ≡ writtenIn (length (now (output .entry))) (handed kind fields (now (series .entry)))) × (now (output .exit) ≡ outputAfter r (handed kind fields (now (series .entry))) (now (output .entry))) ⌝ }
 {
     if !call::kind_ok(kind) {
-        return Written::Refused(FileCause::BadKind);
+        return refused(FileCause::BadKind);
     }
     match size_call(kind, &fields, series) {
         Sized::Bytes(size) => {
             if output.len() < size {
-                return Written::Refused(FileCause::NoRoom);
+                return refused(FileCause::NoRoom);
             }
             Written::Length(put_call(kind, &fields, series, output))
         }
-        Sized::TooLarge => Written::Refused(FileCause::TooLarge),
+        Sized::TooLarge => refused(FileCause::TooLarge),
     }
 }

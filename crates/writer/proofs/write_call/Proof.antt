@@ -13,8 +13,11 @@ use Rattle.writer.proofs.write_call.Tie as tie
 kind-ok-requires : tie.Need-kind-ok-requires
 kind-ok-requires c κs = search needs
 
+refused-requires : tie.Need-refused-requires
+refused-requires c κs = search needs
+
 returns : tie.Need-returns
-returns c = write-33 (c .before .before .before .before .args .output .now) (handed (c .before .before .before .before .args .kind) (c .before .before .before .before .args .t2) (c .before .before .before .before .args .series .now)) (sym (c .before .kind-ok .ensures) ∙ not-true _ (c .if1 .taken))
+returns c = write-33 (c .before .before .before .before .before .args .output .now) (handed (c .before .before .before .before .before .args .kind) (c .before .before .before .before .before .args .t2) (c .before .before .before .before .before .args .series .now)) (c .refused .ensures) (sym (c .before .before .kind-ok .ensures) ∙ not-true _ (c .before .if1 .taken))
 
 slice-aggregate-size-call : tie.Need-slice-aggregate-size-call
 slice-aggregate-size-call c = search needs
@@ -25,8 +28,11 @@ size-call-requires c κs = (sym (c .before .before .kind-ok .ensures) ∙ not-fa
 enum-known-size : tie.Need-enum-known-size
 enum-known-size c = search needs
 
+refused-requires-2 : tie.Need-refused-requires-2
+refused-requires-2 c κs = search needs
+
 returns-2 : tie.Need-returns-2
-returns-2 c = write-35 (c .before .before .before .before .before .before .before .before .before .before .args .output .now) (handed (c .before .before .before .before .before .before .before .before .before .before .args .kind) (c .before .before .before .before .before .before .before .before .before .before .args .t2) (c .before .before .before .before .before .before .before .before .before .before .args .series .now)) (sym (c .before .before .before .before .before .before .before .kind-ok .ensures) ∙ not-false _ (c .before .before .before .before .before .before .if1 .left)) (sym (c .before .before .before .before .size-call .ensures) ∙ c .before .before .size .given .1) (c .if2 .taken)
+returns-2 c = write-35 (c .before .before .before .before .before .before .before .before .before .before .before .args .output .now) (handed (c .before .before .before .before .before .before .before .before .before .before .before .args .kind) (c .before .before .before .before .before .before .before .before .before .before .before .args .t2) (c .before .before .before .before .before .before .before .before .before .before .before .args .series .now)) (sym (c .before .before .before .before .before .before .before .before .kind-ok .ensures) ∙ not-false _ (c .before .before .before .before .before .before .before .if1 .left)) (c .refused2 .ensures) (sym (c .before .before .before .before .before .size-call .ensures) ∙ c .before .before .before .size .given .1) (c .before .if2 .taken)
 
 slice-aggregate-put-call : tie.Need-slice-aggregate-put-call
 slice-aggregate-put-call c = search needs
@@ -42,6 +48,9 @@ put-call-requires c κs = (
 enum-told : tie.Need-enum-told
 enum-told c = search needs
 
+refused-requires-3 : tie.Need-refused-requires-3
+refused-requires-3 c κs = search needs
+
 same-length : tie.Need-same-length
 same-length c = search needs
 
@@ -51,21 +60,24 @@ returns-3 c =
     (c .before .before .put-call .ensures)
 
 returns-4 : tie.Need-returns-4
-returns-4 c = write-34 (c .before .before .before .before .before .before .before .before .args .output .now) (handed (c .before .before .before .before .before .before .before .before .args .kind) (c .before .before .before .before .before .before .before .before .args .t2) (c .before .before .before .before .before .before .before .before .args .series .now)) (sym (c .before .before .before .before .before .kind-ok .ensures) ∙ not-false _ (c .before .before .before .before .if1 .left)) (sym (c .before .before .size-call .ensures) ∙ c .enum-told .given .1)
+returns-4 c = write-34 (c .before .before .before .before .before .before .before .before .before .args .output .now) (handed (c .before .before .before .before .before .before .before .before .before .args .kind) (c .before .before .before .before .before .before .before .before .before .args .t2) (c .before .before .before .before .before .before .before .before .before .args .series .now)) (sym (c .before .before .before .before .before .before .kind-ok .ensures) ∙ not-false _ (c .before .before .before .before .before .if1 .left)) (c .refused3 .ensures) (sym (c .before .before .before .size-call .ensures) ∙ c .before .enum-told .given .1)
 
 pub write-call-spec : {M : Type 1} → statement M
 write-call-spec =
     tie.close
     (tie.spec
     kind-ok-requires
+    refused-requires
     returns
     slice-aggregate-size-call
     size-call-requires
     enum-known-size
+    refused-requires-2
     returns-2
     slice-aggregate-put-call
     put-call-requires
     enum-told
+    refused-requires-3
     same-length
     returns-3
     returns-4)
