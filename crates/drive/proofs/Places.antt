@@ -1,5 +1,5 @@
 -- The places of what was read, and a field or 0 where there is none. Assumes nothing.
-use Prim.Native.Nat.{ℕ, zero, suc, _+_, _<_, _≤_}
+use Prim.Native.Nat.{ℕ, zero, suc, _+_, _-_, _<_, _≤_}
 use mathlib.Core.Path.{_≡_, refl, sym, ap, subst, _∙_}
 use mathlib.Core.Bool.{cond}
 use borrow.Author.Tests.{lt-ltb, le-ltb, eq-eqb, ne-eqb}
@@ -7,9 +7,9 @@ use lib.Dec.{ltb, eqb}
 use mathlib.Core.List.{List, [], _∷_, _++_}
 use native.Mathlib.Omega.{arith}
 use native.Mathlib.Numerals.{add-one}
-use lib.ListN.{length, take, drop, set, getD, replicate, length-set, length-append, List·getD-eq-default}
-use lib.Seq.{take-suc, take-suc-set, take-all, drop-set-lt, set-split, getD-take, length-take-le}
-use Rattle.message.specs.Call.{mostFields}
+use lib.ListN.{length, take, drop, set, getD, replicate, length-set, length-append, List·getD-append, List·getD-eq-default}
+use lib.Seq.{take-suc, take-suc-set, take-all, drop-set-lt, set-split, getD-append-add, getD-take, length-take-le}
+use Rattle.message.specs.Call.{beforeGroups, mostFields}
 use Rattle.reader.specs.Reader.{readAt, seriesAfter}
 use Rattle.drive.specs.Drive.{places, written, fields21, driven, readAnswer, stepOut, readOut, writeAnswer, writeLength, writeOut}
 use Rattle.message.specs.Call.{Sent}
@@ -20,8 +20,8 @@ use Rattle.writer.specs.declared.Written.{Written}
 
 -- `first`, `kind` and i fields stand in front, and behind the 24 places all is as it was
 pub record Filling (out₀ : List ℕ) (first kind : ℕ) (fields out : List ℕ) (i : ℕ) : Type 0 where
-  pub inside : i ≤ 21
-  pub all : length fields ≡ 21
+  pub inside : i ≤ mostFields
+  pub all : length fields ≡ mostFields
   pub room : places ≤ length out₀
   pub long : length out ≡ length out₀
   pub front : take (2 + i) out ≡ first ∷ kind ∷ take i fields
@@ -31,7 +31,7 @@ pub record Filling (out₀ : List ℕ) (first kind : ℕ) (fields out : List ℕ
 abbrev pub begun : List ℕ → ℕ → ℕ → List ℕ
 begun out first kind = set (set out 0 first) 1 kind
 
-pub filling : (out : List ℕ) (first kind : ℕ) (fields : List ℕ) → length fields ≡ 21 → places ≤ length out → Filling (begun out first kind) first kind fields (begun out first kind) 0
+pub filling : (out : List ℕ) (first kind : ℕ) (fields : List ℕ) → length fields ≡ mostFields → places ≤ length out → Filling (begun out first kind) first kind fields (begun out first kind) 0
 filling [] first kind fields a h = absurd (omega arith)
 filling (x ∷ []) first kind fields a h = absurd (omega arith)
 filling (x ∷ y ∷ l) first kind fields a h = record { inside = omega arith; all = a; room = h; long = refl; front = refl; back = refl }
@@ -43,7 +43,7 @@ pub begun-length : (out : List ℕ) (first kind : ℕ) → length (begun out fir
 begun-length out first kind = length-set (set out 0 first) 1 kind ∙ length-set out 0 first
 
 module _ {out₀ : List ℕ} {first kind : ℕ} {fields out : List ℕ} {i : ℕ} (w : Filling out₀ first kind fields out i) where
-  pub filled-more : i < 21 → Filling out₀ first kind fields (set out (2 + i) (getD fields i 0)) (i + 1)
+  pub filled-more : i < mostFields → Filling out₀ first kind fields (set out (2 + i) (getD fields i 0)) (i + 1)
   filled-more h =
       let there : 2 + i < length out = omega (arith, w .room, w .long) in
       let here : i < length fields = omega (arith, w .all) in
@@ -60,11 +60,11 @@ module _ {out₀ : List ℕ} {first kind : ℕ} {fields out : List ℕ} {i : ℕ
   pub in-places : 23 < length out
   in-places = omega (arith, w .room, w .long)
 
-  pub all-filled : (count : ℕ) → 21 ≤ i → set out 23 count ≡ written first kind fields count out₀
+  pub all-filled : (count : ℕ) → mostFields ≤ i → set out 23 count ≡ written first kind fields count out₀
   all-filled count h =
-      let n : i ≡ 21 = omega (arith, w .inside) in
+      let n : i ≡ mostFields = omega (arith, w .inside) in
       let front : take 23 out ≡ first ∷ kind ∷ fields =
-      let f : take (2 + 21) out ≡ first ∷ kind ∷ take 21 fields = rw n at (w .front) in f ∙ ap (λ (x : List ℕ). first ∷ kind ∷ x) (take-all 21 fields (omega (arith, w .all))) in
+      let f : take (2 + mostFields) out ≡ first ∷ kind ∷ take mostFields fields = rw n at (w .front) in f ∙ ap (λ (x : List ℕ). first ∷ kind ∷ x) (take-all mostFields fields (omega (arith, w .all))) in
       set-split out 23 count in-places ∙ rw (front, w .back)
 
 -- a field or 0
@@ -81,18 +81,28 @@ padded-at [] k i = zeros-at k i
 padded-at (x ∷ l) k zero = refl
 padded-at (x ∷ l) k (suc i) = padded-at l k i
 
-pub field-at : (fields : List ℕ) (i x : ℕ) → i < 21 → x ≡ getD fields i 0 → x ≡ getD (fields21 fields) i 0
+pub field-at : (fields : List ℕ) (i x : ℕ) → i < mostFields → x ≡ getD fields i 0 → x ≡ getD (fields21 fields) i 0
 field-at fields i x h e = e ∙ sym (getD-take mostFields (fields ++ replicate mostFields 0) i 0 h ∙ padded-at fields mostFields i)
 
-zeros-length : length (replicate {A = ℕ} mostFields 0) ≡ 21
+zeros-length : length (replicate {A = ℕ} mostFields 0) ≡ mostFields
 zeros-length = refl
 
-pub fields-length : (fields : List ℕ) → length (fields21 fields) ≡ 21
+pub fields-length : (fields : List ℕ) → length (fields21 fields) ≡ mostFields
 fields-length fields =
     length-take-le mostFields (fields ++ replicate mostFields 0) (omega (arith, length-append fields (replicate mostFields 0), zeros-length))
 
 pub filled-out : (out : List ℕ) (first kind : ℕ) (fields last : List ℕ) (count : ℕ) → last ≡ written first kind fields count (begun out first kind) → last ≡ written first kind fields count out
 filled-out out first kind fields last count e = e ∙ ap (λ (x : List ℕ). first ∷ kind ∷ (fields ++ (count ∷ x))) (begun-back out first kind)
+
+-- a number of two lists, one behind the other
+module _ (head groups : List ℕ) (i : ℕ) (size : length head ≡ beforeGroups) where
+  pub in-head : i < beforeGroups → getD head i 0 ≡ getD (head ++ groups) i 0
+  in-head h = sym (List·getD-append head groups 0 i (omega arith))
+
+  pub behind-head : beforeGroups ≤ i → getD groups (i - beforeGroups) 0 ≡ getD (head ++ groups) i 0
+  behind-head h =
+      let place : length head + (i - beforeGroups) ≡ i = omega arith in
+      sym (getD-append-add head groups (i - beforeGroups) 0) ∙ rw place
 
 -- what is answered of a reading: the number, the series buffer, the places
 abbrev pub ReadPost : List ℕ → ℕ → List ℕ → List ℕ → ℕ → List ℕ → List ℕ → Type 0
@@ -106,10 +116,10 @@ module _ (s : List ℕ) (start : ℕ) (series₀ out₀ : List ℕ) where
   read-short h = rw (lt-ltb (length out₀) places h) (refl, refl, refl)
 
   pub read-step : {reading : Reading} {t : Step} {r : ℕ} {series out : List ℕ} → places ≤ length out₀ → (reading ≡ readAt s start (length series₀)) × (series ≡ seriesAfter s start series₀) → reading .step ≡ t →
-      r ≡ readAnswer t → out ≡ stepOut start t (reading .fields) out₀ → ReadPost s start series₀ out₀ r series out
+      r ≡ readAnswer t → out ≡ stepOut start t (reading .groups) out₀ → ReadPost s start series₀ out₀ r series out
   read-step {reading} {t} h p e a o =
       rw (le-ltb (length out₀) places h)
-      (a ∙ ap readAnswer (sym e ∙ ap (λ (x : Reading). x .step) (p .0)), p .1, o ∙ ap (λ (x : Step). stepOut start x (reading .fields) out₀) (sym e) ∙ ap (λ (x : Reading). readOut start x out₀) (p .0))
+      (a ∙ ap readAnswer (sym e ∙ ap (λ (x : Reading). x .step) (p .0)), p .1, o ∙ ap (λ (x : Step). stepOut start x (reading .groups) out₀) (sym e) ∙ ap (λ (x : Reading). readOut start x out₀) (p .0))
 
 -- what is answered of a writing: the number, the output, the length
 abbrev pub DrivePost : Sent → List ℕ → List ℕ → ℕ → List ℕ → List ℕ → Type 0

@@ -1,6 +1,9 @@
 // A desk with one field overwritten, as no call would do it: so that cause 1 can be tried field by field.
 use quantity::Day;
 use quantity::Version;
+use quantity::limits::DELTAS;
+use quantity::limits::POINTS;
+use quantity::limits::VERSIONS;
 use state::Area;
 use state::Desk;
 use state::Kind;
@@ -12,6 +15,11 @@ use state::ShortDay;
 use state::ShortPoint;
 use state::Status;
 use state::VersionRecord;
+
+// How many numbers a byte has, and how many two bytes have.
+const BYTE: u64 = 256;
+
+const SHORT: u64 = 65536;
 
 // A field that the opening fixed.
 fn with_opening(d: Desk, which: u64, a: u64) -> Desk {
@@ -52,7 +60,7 @@ fn with_count(d: Desk, which: u64, a: u64) -> Desk {
 // A delta group.
 fn with_group(d: Desk, place: u64, a: u64) -> Desk {
     let mut r = d;
-    if place < 17 {
+    if place < DELTAS {
         let i = place as usize;
         r.groups[i] = a;
     }
@@ -62,7 +70,7 @@ fn with_group(d: Desk, place: u64, a: u64) -> Desk {
 // A point.
 fn with_point(d: Desk, place: u64, state: PointState) -> Desk {
     let mut r = d;
-    if place < 256 {
+    if place < POINTS {
         let i = place as usize;
         let p = PointRecord { state };
         r.points[i] = p;
@@ -83,12 +91,12 @@ fn status_of(number: u64) -> Status {
 // A version.
 fn with_version(d: Desk, place: u64, version: u64, point: u64, row: u64, status: u64) -> Desk {
     let mut r = d;
-    if place < 512 {
+    if place < VERSIONS {
         let i = place as usize;
         let v = VersionRecord {
             version: Version(version),
-            point: ShortPoint((point % 65536) as u16),
-            row: Row((row % 65536) as u16),
+            point: ShortPoint((point % SHORT) as u16),
+            row: Row((row % SHORT) as u16),
             status: status_of(status),
         };
         r.versions[i] = v;
@@ -106,10 +114,10 @@ pub fn damaged(d: Desk, which: u64, place: u64, a: u64, b: u64, c: u64, e: u64) 
         14 => with_point(d, place, PointState::Free),
         15 => {
             let active = PointState::Active {
-                since: ShortDay((a % 65536) as u16),
-                kind: Kind((b % 256) as u8),
-                area: Area((c % 256) as u8),
-                partner: Partner((e % 256) as u8),
+                since: ShortDay((a % SHORT) as u16),
+                kind: Kind((b % BYTE) as u8),
+                area: Area((c % BYTE) as u8),
+                partner: Partner((e % BYTE) as u8),
             };
             with_point(d, place, active)
         }

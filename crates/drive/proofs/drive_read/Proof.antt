@@ -1,6 +1,6 @@
 -- `drive_read` meets its contract: the step that was read, and its places. Assumes nothing.
 use borrow.Author.Needs.{needs}
-use mathlib.Core.Path.{refl}
+use mathlib.Core.Path.{refl, _∙_}
 use Rattle.drive.proofs.Places.{read-short, read-step}
 use borrow.Author.Needs.{needs}
 use Rattle.drive.proofs.drive_read.Statement.{statement}
@@ -14,6 +14,12 @@ read-call-requires c κs = search needs
 
 enum-known-step : tie.Need-enum-known-step
 enum-known-step c = search needs
+
+kind-of-requires : tie.Need-kind-of-requires
+kind-of-requires c κs = search needs
+
+numbers-of-requires : tie.Need-numbers-of-requires
+numbers-of-requires c κs = search needs
 
 fill-out-requires : tie.Need-fill-out-requires
 fill-out-requires c κs = search needs
@@ -41,8 +47,8 @@ same-length-2 c = search needs
 
 returns-2 : tie.Need-returns-2
 returns-2 c =
-    read-step (c .before .before .before .before .before .before .before .before .before .before .before .before .before .before .before .before .args .file .now) (c .before .before .before .before .before .before .before .before .before .before .before .before .before .before .before .before .args .start) (c .before .before .before .before .before .before .before .before .before .before .before .before .before .before .before .before .args .series .now) (c .before .before .before .before .before .before .before .before .before .before .before .before .before .before .before .before .args .out .now) (c .before .before .before .before .before .before .before .before .before .before .before .before .if1 .left) (c .before .before .before .before .before .before .before .before .before .before .read-call .ensures) (c .before .before .before .before .before .step .given .1)
-    refl (c .before .before .fill-out .ensures)
+    read-step (c .before .before .before .before .before .before .before .before .before .before .before .before .before .before .before .before .before .before .args .file .now) (c .before .before .before .before .before .before .before .before .before .before .before .before .before .before .before .before .before .before .args .start) (c .before .before .before .before .before .before .before .before .before .before .before .before .before .before .before .before .before .before .args .series .now) (c .before .before .before .before .before .before .before .before .before .before .before .before .before .before .before .before .before .before .args .out .now) (c .before .before .before .before .before .before .before .before .before .before .before .before .before .before .if1 .left) (c .before .before .before .before .before .before .before .before .before .before .before .before .read-call .ensures) (c .before .before .before .before .before .before .before .step .given .1)
+    refl (c .before .before .fill-out .ensures ∙ rw (c .before .before .before .before .before .kind-of .ensures, c .before .before .before .before .numbers-of .ensures))
 
 same-length-3 : tie.Need-same-length-3
 same-length-3 c = search needs
@@ -73,6 +79,8 @@ drive-read-spec =
     returns
     read-call-requires
     enum-known-step
+    kind-of-requires
+    numbers-of-requires
     fill-out-requires
     enum-told
     fill-out-requires-2
