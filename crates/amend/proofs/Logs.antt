@@ -1,10 +1,13 @@
 -- Laws of the log: four stores, one after another, are one row. Assumes nothing.
 use mathlib.Core.Path.{_≡_, refl, ap}
 use mathlib.Core.List.{List, [], _∷_}
-use Prim.Native.Nat.{ℕ, zero, suc, _+_, _^_, _≤_, _<_}
+use Prim.Native.Nat.{ℕ, zero, suc, _+_, _*_, _^_, _≤_, _<_}
 use native.Mathlib.Omega.{arith}
+use mathlib.Core.Bool.{false}
+use borrow.Author.Tests.{ltb-false}
 use lib.ListN.{length, set}
 use Rattle.book.specs.Row.{splice}
+use Rattle.model.specs.Causes.{logFull}
 use Rattle.model.specs.declared.Due.{Due}
 use Rattle.model.specs.declared.Due.the-variants.{Nothing, Row}
 use Rattle.amend.specs.Lent.{RoomIn, MoreIn}
@@ -27,3 +30,8 @@ module _ {A : Type 0} (a b c d : A) where
 pub room-counted : (n : ℕ) (log : List ℕ) (due : Due) → length log < 2 ^ 64 → RoomIn n log due → MoreIn n due
 room-counted n log Nothing h r = tt
 room-counted n log (Row x) h r = omega arith
+
+-- a log that is not full has room for the row that is due
+pub room-left : (used opening : ℕ) (log : List ℕ) (x : Due) → length log ≡ opening → logFull used opening x ≡ false → RoomIn used log x
+room-left used opening log Nothing h e = tt
+room-left used opening log (Row r) h e = omega (arith, ltb-false opening (4 * (used + 1)) e)

@@ -20,11 +20,11 @@ use denote.Signature.{Slot}
 use denote.Triple.Walked.{Stay, Goes}
 use Rattle.state.specs.declared.Desk.{Desk}
 use Rattle.model.specs.declared.Answer.{Answer}
-use Rattle.verdict.specs.declared.Outcome.{Outcome}
+use Rattle.checks.specs.declared.Outcome.{Outcome}
 use Rattle.state.proofs.Desk as Deskᵀ
 use Rattle.state.proofs.Desk.Laws as Deskᴸ
-use Rattle.verdict.proofs.Outcome as Outcomeᵀ
-use Rattle.verdict.proofs.Outcome.Laws as Outcomeᴸ
+use Rattle.checks.proofs.Outcome as Outcomeᵀ
+use Rattle.checks.proofs.Outcome.Laws as Outcomeᴸ
 use Rattle.model.proofs.Answer as Answerᵀ
 use Rattle.model.proofs.Answer.Laws as Answerᴸ
 

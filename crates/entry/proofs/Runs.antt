@@ -15,11 +15,11 @@ use Rattle.model.specs.declared.Verdict.{Verdict}
 use Rattle.model.specs.declared.Verdict.the-variants.{Fine, Refuse}
 use Rattle.model.proofs.Lending.{left-in}
 use Rattle.model.proofs.Main.{agree}
-use Rattle.verdict.specs.Stepped.{lent}
+use Rattle.checks.specs.Stepped.{lent}
 use Rattle.entry.specs.Change.{asked}
 use Rattle.entry.specs.Entered.{Entry, byOpen, bySubmit, byApply, callOf, Entered, lentOf, replyIn, Meets, leftBy, endOf, Run, Onward}
 use Rattle.entry.specs.declared.Change.the-variants.{Activate, Deactivate, Notice, Assign, Settle}
-use Rattle.verdict.proofs.Untaken.{values-kept, book-kept, log-kept}
+use Rattle.checks.proofs.Untaken.{values-kept, book-kept, log-kept}
 
 -- ---- one entry
 

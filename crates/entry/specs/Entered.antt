@@ -8,7 +8,7 @@ use Rattle.model.specs.Agreement.{Running, Own, left}
 use Rattle.model.specs.Call.{Call, opens, submits, takes, Stores, Lent, Reply}
 use Rattle.model.specs.Step.{step}
 use Rattle.model.specs.declared.Answer.{Answer}
-use Rattle.verdict.specs.Stepped.{Stepped, lent}
+use Rattle.checks.specs.Stepped.{Stepped, lent}
 use Rattle.entry.specs.Change.{asked}
 use Rattle.entry.specs.declared.Change.{Change}
 

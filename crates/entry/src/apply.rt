@@ -4,7 +4,7 @@ use crate::dispatch::dispatch;
 use model::Answer;
 use state::Desk;
 ghost use Rattle.model.specs.Step.{step};
-ghost use Rattle.verdict.specs.Stepped.{Stepped, storesOf, lent};
+ghost use Rattle.checks.specs.Stepped.{Stepped, storesOf, lent};
 ghost use Rattle.entry.specs.Change.{asked};
 
 // A store that the change does not take may have any length and stays as it is.

@@ -1,14 +1,14 @@
 // A change to its core, the state by value.
 use crate::Change;
-use clearing::notice::notice;
-use desk::activate::activate;
-use desk::deactivate::deactivate;
-use settlement::assign::assign;
-use settlement::settle::settle;
+use calls::activate::activate;
+use calls::assign::assign;
+use calls::deactivate::deactivate;
+use calls::settle::settle;
+use checks::Outcome;
+use notice::call::notice;
 use state::Desk;
-use verdict::Outcome;
 ghost use Rattle.model.specs.Step.{step};
-ghost use Rattle.verdict.specs.Stepped.{Stepped, storesOf, lent};
+ghost use Rattle.checks.specs.Stepped.{Stepped, storesOf, lent};
 ghost use Rattle.entry.specs.Change.{asked};
 
 // A notice is lent all three stores, assign the book alone, the others none.

@@ -1,11 +1,11 @@
 // Open, on the desk that is lent.
-use desk::open::open as core;
+use calls::open::open as core;
 use model::Answer;
 use quantity::Day;
 use state::Desk;
 ghost use Rattle.model.specs.Call.{opens};
 ghost use Rattle.model.specs.Step.{step};
-ghost use Rattle.verdict.specs.Stepped.{Stepped, storesOf, lent};
+ghost use Rattle.checks.specs.Stepped.{Stepped, storesOf, lent};
 
 // The 17 delta groups: T's, then those of the areas 1 to 16.
 pub fn open(

@@ -1,15 +1,15 @@
 // Submit, on the desk that is lent.
-use delivery::submit::submit as core;
 use model::Answer;
 use quantity::Day;
 use quantity::PointNo;
 use quantity::Version;
 use state::Desk;
+use submit::call::submit as core;
 ghost use mathlib.Core.List.{map};
 ghost use Rattle.quantity.specs.Word.{signed};
 ghost use Rattle.model.specs.Call.{submits};
 ghost use Rattle.model.specs.Step.{step};
-ghost use Rattle.verdict.specs.Stepped.{Stepped, storesOf, lent};
+ghost use Rattle.checks.specs.Stepped.{Stepped, storesOf, lent};
 
 // The series are the submission's energies, as many as it has.
 pub fn submit(

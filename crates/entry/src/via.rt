@@ -3,16 +3,16 @@ use crate::Change;
 use crate::apply::apply;
 use crate::open::open;
 use crate::submit::submit;
+use checks::Outcome;
 use quantity::Day;
 use quantity::PointNo;
 use quantity::Version;
 use state::Desk;
-use verdict::Outcome;
 ghost use mathlib.Core.List.{map};
 ghost use Rattle.quantity.specs.Word.{signed};
 ghost use Rattle.model.specs.Call.{opens, submits};
 ghost use Rattle.model.specs.Step.{step};
-ghost use Rattle.verdict.specs.Stepped.{Stepped, storesOf, lent};
+ghost use Rattle.checks.specs.Stepped.{Stepped, storesOf, lent};
 ghost use Rattle.entry.specs.Change.{asked};
 
 pub fn via_open(

@@ -2,7 +2,7 @@
 use message::cause;
 use replay::Ending;
 ghost use mathlib.Core.Path.{_≡_};
-ghost use Rattle.verdict.specs.Stepped.{storesOf};
+ghost use Rattle.checks.specs.Stepped.{storesOf};
 ghost use Prim.Native.Nat.{_≤_};
 ghost use lib.ListN.{length};
 ghost use Rattle.replay.specs.Replay.{over};

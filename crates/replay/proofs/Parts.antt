@@ -13,7 +13,7 @@ use Rattle.model.specs.Agreement.{Running}
 use Rattle.model.specs.Call.{Call}
 use Rattle.model.specs.Step.{step}
 use Rattle.model.specs.declared.Answer.{Answer}
-use Rattle.verdict.specs.Stepped.{Stepped, storesOf, lent}
+use Rattle.checks.specs.Stepped.{Stepped, storesOf, lent}
 use Rattle.replay.specs.Feeding.{quartersFor, lentOf}
 use Rattle.replay.specs.Play.{reach, lentTo, handed}
 use Rattle.replay.specs.Run.{runningOf, Handed}

@@ -25,7 +25,7 @@ use Rattle.state.specs.declared.Desk.{Desk}
 use Rattle.model.specs.Agreement.{Running}
 use Rattle.model.specs.Call.{Call, Stores, answerNumber}
 use Rattle.model.specs.declared.Answer.{Answer}
-use Rattle.verdict.specs.Stepped.{storesOf}
+use Rattle.checks.specs.Stepped.{storesOf}
 use Rattle.reader.specs.Reader.{filled, readAt, seriesAfter}
 use Rattle.reader.specs.declared.Step.{Step}
 use Rattle.reader.specs.declared.Step.the-variants.{Call as CallRead, End as FileEnd, Refused as NotRead}

@@ -10,8 +10,8 @@ use Rattle.message.specs.Named.{callOf, groupsOf}
 use Rattle.message.specs.declared.FileCall.{FileCall}
 use Rattle.message.specs.declared.FileCall.the-variants.{Open, Activate, Deactivate, Submit, Notice, Assign, Settle}
 use Rattle.state.specs.declared.Desk.{Desk}
-use Rattle.verdict.specs.Look.{Looked}
-use Rattle.verdict.specs.declared.Look.{Look}
+use Rattle.checks.specs.Look.{Looked}
+use Rattle.checks.specs.declared.Look.{Look}
 use Rattle.replay.specs.declared.Asks.{Asks}
 use Rattle.model.specs.Call.{Call, opens, activates, deactivates, submits, notices, assigns, settles}
 

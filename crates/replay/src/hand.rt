@@ -1,25 +1,25 @@
 // A call of the file to the desk.
 use crate::Asks;
-use clearing::notice::decide_notice;
-use delivery::submit::decide_submit;
-use desk::activate::decide_activate;
-use desk::deactivate::decide_deactivate;
-use desk::open::decide_open;
+use calls::activate::decide_activate;
+use calls::assign::decide_assign;
+use calls::deactivate::decide_deactivate;
+use calls::open::decide_open;
+use calls::settle::decide_settle;
+use checks::Decided;
+use checks::Look;
+use checks::looks::look;
 use message::FileCall;
+use notice::call::decide_notice;
 use quantity::PointNo;
 use quantity::Version;
-use settlement::assign::decide_assign;
-use settlement::settle::decide_settle;
 use state::Desk;
-use verdict::Decided;
-use verdict::Look;
-use verdict::desks::look;
+use submit::call::decide_submit;
 ghost use mathlib.Core.Path.{_≡_};
 ghost use mathlib.Core.List.{map};
 ghost use Rattle.quantity.specs.Word.{signed};
-ghost use Rattle.change.specs.Effect.{changedBy, Fits};
+ghost use Rattle.effect.specs.Effect.{changedBy, Fits};
 ghost use Rattle.model.specs.Step.{step};
-ghost use Rattle.verdict.specs.Stepped.{Stepped, storesOf, lent};
+ghost use Rattle.checks.specs.Stepped.{Stepped, storesOf, lent};
 ghost use Rattle.replay.specs.Given.{asking, asked, asksOf, LookedFor};
 
 fn asks(point: PointNo, version: Version, kind: u64, area: u64, partner: u64) -> Asks

@@ -8,7 +8,7 @@ use message::FileCause;
 use quantity::PointNo;
 use quantity::Version;
 use state::Desk;
-ghost use Rattle.verdict.specs.Stepped.{storesOf};
+ghost use Rattle.checks.specs.Stepped.{storesOf};
 ghost use Rattle.replay.specs.Replay.{Replays};
 
 // What one look at the desk is asked for a call: a point and a version, and for an activation its series; 0 where there is none.

@@ -1,19 +1,19 @@
 // The part of the book that a call is lent.
 use crate::hand::hand_on;
+use checks::Decided;
 use message::FileCall;
 use message::call::call_of;
 use message::call::groups_of;
 use state::Desk;
-use verdict::Decided;
 ghost use mathlib.Core.Path.{_≡_};
 ghost use mathlib.Core.List.{List, map};
 ghost use Prim.Native.Nat.{ℕ};
 ghost use lib.IntN.{ℤ};
 ghost use lib.ListN.{length};
 ghost use Rattle.quantity.specs.Word.{signed};
-ghost use Rattle.change.specs.Effect.{changedBy, Fits};
+ghost use Rattle.effect.specs.Effect.{changedBy, Fits};
 ghost use Rattle.message.specs.Named.{callOf, groupsOf};
-ghost use Rattle.verdict.specs.Stepped.{storesOf};
+ghost use Rattle.checks.specs.Stepped.{storesOf};
 ghost use Rattle.replay.specs.Feeding.{quartersFor, lentOf};
 ghost use Rattle.replay.specs.Given.{asked};
 ghost use Rattle.replay.specs.Run.{runningOf, Handed};

@@ -1,6 +1,10 @@
 // For tests only: a script of the nine calls on a fresh desk, each with its own lengths of the stores; and damage to the desk's fields.
 use amend::copies::copy_row;
-use desk::status::status;
+use calls::show::show_number;
+use calls::show::show_row;
+use calls::status::status;
+use checks::Outcome;
+use checks::numbers::number_of;
 use drive::damage::damaged;
 use drive::field_at;
 use drive::pad_fields;
@@ -12,12 +16,8 @@ use message::call::groups_of;
 use quantity::Day;
 use quantity::PointNo;
 use quantity::Version;
-use settlement::show::show_number;
-use settlement::show::show_row;
 use state::Desk;
 use state::fresh::fresh_desk;
-use verdict::Outcome;
-use verdict::numbers::number_of;
 ghost use Prim.Native.Nat.{_≤_};
 ghost use lib.ListN.{length};
 

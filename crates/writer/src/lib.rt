@@ -194,7 +194,12 @@ fn refused(cause: FileCause) -> Written
 }
 
 // The call's bytes to the output's start: their count, or why nothing is written.
-pub fn write_call(kind: u64, fields: [u64; MOST_FIELDS], series: &[u64], output: &mut [u8]) -> Written
+pub fn write_call(
+    kind: u64,
+    fields: [u64; MOST_FIELDS],
+    series: &[u64],
+    output: &mut [u8],
+) -> Written
     ensures { λ r. ⌜ (r ≡ writtenIn (length (now (output .entry))) (handed kind fields (now (series .entry)))) × (now (output .exit) ≡ outputAfter r (handed kind fields (now (series .entry))) (now (output .entry))) ⌝ }
 {
     if !call::kind_ok(kind) {

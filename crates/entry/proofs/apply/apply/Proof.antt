@@ -39,14 +39,14 @@ use denote.Triple.End.{lastsOf}
 use denote.Triple.Table.{entered, cited}
 use denote.Triple.Walked.{Stays, stay-ref, walkOf, goes-ref, ends-at, walked, walk-meets}
 use Rattle.state.specs.declared.Desk.{Desk}
-use Rattle.verdict.specs.declared.Outcome.{Outcome}
+use Rattle.checks.specs.declared.Outcome.{Outcome}
 use Rattle.entry.proofs.Lent.{said, said-goes, desk-vals, desk-tells, desk-offset, answer-val, outcome-types, outcome-parts, outcome-tells, parts-of}
 use denote.Struct.Laws as LL
 use denote.Enum.Laws as EL
 use Rattle.state.proofs.Desk as Deskᵀ
 use Rattle.state.proofs.Desk.Laws as Deskᴸ
-use Rattle.verdict.proofs.Outcome as Outcomeᵀ
-use Rattle.verdict.proofs.Outcome.Laws as Outcomeᴸ
+use Rattle.checks.proofs.Outcome as Outcomeᵀ
+use Rattle.checks.proofs.Outcome.Laws as Outcomeᴸ
 use Rattle.model.proofs.Answer as Answerᵀ
 use Rattle.model.proofs.Answer.Laws as Answerᴸ
 use Rattle.entry.proofs.Change as Changeᵀ

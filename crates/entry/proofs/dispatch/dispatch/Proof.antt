@@ -1,7 +1,7 @@
 -- `dispatch` meets its contract. Assumes nothing.
 use mathlib.Core.Path.{refl}
 use Rattle.entry.specs.Change.{asked}
-use Rattle.verdict.proofs.Untaken.{none-taken, book-taken}
+use Rattle.checks.proofs.Untaken.{none-taken, book-taken}
 use borrow.Author.Needs.{needs}
 use Rattle.entry.proofs.dispatch.dispatch.Statement.{statement}
 use Rattle.entry.proofs.dispatch.dispatch.Tie as tie

@@ -41,22 +41,22 @@ use denote.Triple.End.{lastsOf}
 use denote.Triple.Table.{entered, cited}
 use denote.Triple.Walked.{Stays, stay-ref, walkOf, goes-ref, ends-at, walked, walk-meets}
 use Rattle.state.specs.declared.Desk.{Desk}
-use Rattle.verdict.specs.declared.Outcome.{Outcome}
+use Rattle.checks.specs.declared.Outcome.{Outcome}
 use Rattle.entry.proofs.Lent.{said, said-goes, desk-vals, desk-tells, desk-offset, answer-val, outcome-types, outcome-parts, outcome-tells, parts-of}
 use denote.Struct.Laws as LL
 use denote.Enum.Laws as EL
 use Rattle.state.proofs.Desk as Deskᵀ
 use Rattle.state.proofs.Desk.Laws as Deskᴸ
-use Rattle.verdict.proofs.Outcome as Outcomeᵀ
-use Rattle.verdict.proofs.Outcome.Laws as Outcomeᴸ
+use Rattle.checks.proofs.Outcome as Outcomeᵀ
+use Rattle.checks.proofs.Outcome.Laws as Outcomeᴸ
 use Rattle.model.proofs.Answer as Answerᵀ
 use Rattle.model.proofs.Answer.Laws as Answerᴸ
 use Rattle.quantity.proofs.Day as Dayᵀ
 use Rattle.quantity.proofs.Day.Laws as Dayᴸ
-use Rattle.desk.proofs.open.open as callee
-use Rattle.desk.proofs.open.open.Symbol as callee-def
-use Rattle.desk.proofs.open.open.Symbol.{name as #callee}
-use Rattle.desk.proofs.open.open.Met as callee-thm
+use Rattle.calls.proofs.open.open as callee
+use Rattle.calls.proofs.open.open.Symbol as callee-def
+use Rattle.calls.proofs.open.open.Symbol.{name as #callee}
+use Rattle.calls.proofs.open.open.Met as callee-thm
 use Rattle.entry.proofs.open.open as here
 use Rattle.entry.proofs.open.open.Key.{name as #here}
 use Rattle.entry.proofs.open.open.Statement as stated

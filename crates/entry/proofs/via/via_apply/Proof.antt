@@ -46,8 +46,8 @@ use denote.Struct.Laws as LL
 use denote.Enum.Laws as EL
 use Rattle.state.proofs.Desk as Deskᵀ
 use Rattle.state.proofs.Desk.Laws as Deskᴸ
-use Rattle.verdict.proofs.Outcome as Outcomeᵀ
-use Rattle.verdict.proofs.Outcome.Laws as Outcomeᴸ
+use Rattle.checks.proofs.Outcome as Outcomeᵀ
+use Rattle.checks.proofs.Outcome.Laws as Outcomeᴸ
 use Rattle.model.proofs.Answer as Answerᵀ
 use Rattle.model.proofs.Answer.Laws as Answerᴸ
 use Rattle.entry.proofs.Change as Changeᵀ

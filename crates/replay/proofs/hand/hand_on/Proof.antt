@@ -1,6 +1,6 @@
 -- `hand_on` meets its contract. Assumes nothing.
 use mathlib.Core.Path.{refl}
-use Rattle.verdict.proofs.Untaken.{none-taken, book-taken}
+use Rattle.checks.proofs.Untaken.{none-taken, book-taken}
 use Rattle.replay.specs.Given.{asked, asksOf}
 use borrow.Author.Needs.{needs}
 use Rattle.replay.proofs.hand.hand_on.Statement.{statement}

@@ -5,10 +5,10 @@ use mathlib.Core.Logic.{⊎-elim}
 use native.Mathlib.Omega.{arith}
 use lib.ListN.{length, length-set}
 use Rattle.state.proofs.Bounds.{sound}
-use Rattle.change.specs.Effect.{pointsBy, versionsBy}
-use Rattle.change.proofs.Applied.{applied}
-use Rattle.change.proofs.TopVersions.{points-in}
-use Rattle.verdict.specs.Stepped.{storesOf}
+use Rattle.effect.specs.Effect.{pointsBy, versionsBy}
+use Rattle.effect.proofs.Applied.{applied}
+use Rattle.effect.proofs.TopVersions.{points-in}
+use Rattle.checks.specs.Stepped.{storesOf}
 use Rattle.reader.specs.declared.Reading.{Reading}
 use Rattle.replay.specs.Play.{starting}
 use Rattle.replay.specs.Run.{playingOf}

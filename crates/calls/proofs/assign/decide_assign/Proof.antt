@@ -1,0 +1,64 @@
+-- `decide_assign` meets its contract. Assumes nothing.
+use mathlib.Core.Path.{sym, _∙_}
+use borrow.Author.Tests.{not-false}
+use lib.ListN.{length}
+use Rattle.quantity.specs.Limits.{deltaOk, groupOk}
+use Rattle.quantity.proofs.Tests.{and-left, and-right}
+use Rattle.state.proofs.Bounds.{sound}
+use Rattle.checks.proofs.Deciding.{allowed, book-same, unmoved, book-refused, book-granted}
+use borrow.Author.Needs.{needs}
+use Rattle.calls.proofs.assign.decide_assign.Statement.{statement}
+use Rattle.calls.proofs.assign.decide_assign.Tie as tie
+
+assign-verdict-requires : tie.Need-assign-verdict-requires
+assign-verdict-requires c κs = search needs
+
+enum-known-v : tie.Need-enum-known-v
+enum-known-v c = search needs
+
+refuse-requires : tie.Need-refuse-requires
+refuse-requires c κs = search needs
+
+enum-told : tie.Need-enum-told
+enum-told c = search needs
+
+assigned-requires : tie.Need-assigned-requires
+assigned-requires c κs =
+    let a = c .before .before .before .before .before .args in
+    let h = allowed _ _ (sym (c .before .before .before .assign-verdict .ensures 0 0) ∙ c .before .enum-told .given .1) in
+    let fields = not-false _ (h .1 .1 .1 .0) in
+    (sound _ (not-false _ (h .0)), ((and-left (deltaOk (a .area)) _ fields, and-left (groupOk (a .group)) _ (and-right (deltaOk (a .area)) _ fields)), book-same _ _ (h .1 .1 .0)))
+
+accept-requires : tie.Need-accept-requires
+accept-requires c κs = search needs
+
+returns : tie.Need-returns
+returns c =
+    let u = unmoved _ (c .refuse .ensures) in
+    (u .0, λ values log. book-refused _ _ _ (c .before .before .before .before .assign-verdict .ensures (length values) (length log)) (c .before .before .v .given .1) (u .1))
+
+same-length : tie.Need-same-length
+same-length c = search needs
+
+returns-2 : tie.Need-returns-2
+returns-2 c =
+    let k = c .accept .ensures in
+    let e = c .before .before .before .assigned .ensures in (
+      rw (k .1) (e .0),
+      λ values log. book-granted _ _ _ (c .before .before .before .before .before .before .before .assign-verdict .ensures (length values) (length log)) (c .before .before .before .before .before .enum-told .given .1)
+          (rw (k .0, k .1) (e .1 values log)),
+    )
+
+pub decide-assign-spec : {M : Type 1} → statement M
+decide-assign-spec =
+    tie.close
+    (tie.spec
+    assign-verdict-requires
+    enum-known-v
+    refuse-requires
+    enum-told
+    assigned-requires
+    accept-requires
+    returns
+    same-length
+    returns-2)

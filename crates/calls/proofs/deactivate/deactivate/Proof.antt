@@ -1,0 +1,20 @@
+-- `deactivate` meets its contract, by what is decided. Assumes nothing.
+use borrow.Author.Needs.{needs}
+use Rattle.calls.proofs.deactivate.deactivate.Statement.{statement}
+use Rattle.calls.proofs.deactivate.deactivate.Tie as tie
+
+look-requires : tie.Need-look-requires
+look-requires c κs = search needs
+
+decide-deactivate-requires : tie.Need-decide-deactivate-requires
+decide-deactivate-requires c κs = search needs
+
+outcome-requires : tie.Need-outcome-requires
+outcome-requires c κs = search needs
+
+returns : tie.Need-returns
+returns c s = let o = c .outcome .ensures in rw (o .0, o .1) (c .before .decide-deactivate .ensures .1 s)
+
+pub deactivate-spec : {M : Type 1} → statement M
+deactivate-spec =
+    tie.close (tie.spec look-requires decide-deactivate-requires outcome-requires returns)

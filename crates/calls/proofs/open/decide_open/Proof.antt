@@ -1,0 +1,71 @@
+-- `decide_open` meets its contract. Assumes nothing.
+use mathlib.Core.Path.{refl, sym, ap, _∙_}
+use Prim.Native.Nat.{ℕ}
+use borrow.Author.Tests.{not-false}
+use lib.ListN.{replicate}
+use Rattle.checks.proofs.Deciding.{allowed, opens-book, unmoved, all-refused, all-granted}
+use borrow.Author.Needs.{needs}
+use Rattle.calls.proofs.open.decide_open.Statement.{statement}
+use Rattle.calls.proofs.open.decide_open.Tie as tie
+
+open-verdict-requires : tie.Need-open-verdict-requires
+open-verdict-requires c κs = search needs
+
+enum-known-v : tie.Need-enum-known-v
+enum-known-v c = search needs
+
+refuse-requires : tie.Need-refuse-requires
+refuse-requires c κs = search needs
+
+enum-told : tie.Need-enum-told
+enum-told c = search needs
+
+clear-requires : tie.Need-clear-requires
+clear-requires c κs = search needs
+
+open-desk-requires : tie.Need-open-desk-requires
+open-desk-requires c κs = search needs
+
+accept-requires : tie.Need-accept-requires
+accept-requires c κs = search needs
+
+returns : tie.Need-returns
+returns c =
+    let u = unmoved _ (c .refuse .ensures) in
+    (u .0, all-refused _ _ _ (c .before .before .before .before .open-verdict .ensures) (c .before .before .v .given .1) (u .1))
+
+same-length : tie.Need-same-length
+same-length c = search needs
+
+returns-2 : tie.Need-returns-2
+returns-2 c =
+    let k = c .accept .ensures in
+    let p = c .before .open-desk .ensures in
+    let v = c .before .before .before .before .before .before .before .before .open-verdict .ensures in
+    let e = c .before .before .before .before .before .before .enum-told .given .1 in
+    let h = allowed _ _ (sym v ∙ e) in (
+      rw (k .1) (p .0),
+      all-granted _ _ _ v e
+          (record {
+            answered = k .0;
+            held = rw (k .1) (p .1);
+            valued = refl;
+            booked = c .before .before .before .before .clear .ensures ∙ ap (λ (n : ℕ). replicate n 0) (opens-book _ _ (not-false _ (h .1 .1 .0)));
+            noted = refl;
+          }),
+    )
+
+pub decide-open-spec : {M : Type 1} → statement M
+decide-open-spec =
+    tie.close
+    (tie.spec
+    open-verdict-requires
+    enum-known-v
+    refuse-requires
+    enum-told
+    clear-requires
+    open-desk-requires
+    accept-requires
+    returns
+    same-length
+    returns-2)

@@ -1,0 +1,53 @@
+-- `decide_settle` meets its contract. Assumes nothing.
+use mathlib.Core.Path.{sym, _∙_}
+use Rattle.model.specs.Call.{lengthsOf}
+use Rattle.checks.proofs.Deciding.{allowed, noLengths, unmoved, answer-refused, answer-granted}
+use borrow.Author.Tests.{not-false}
+use borrow.Author.Needs.{needs}
+use Rattle.calls.proofs.settle.decide_settle.Statement.{statement}
+use Rattle.calls.proofs.settle.decide_settle.Tie as tie
+
+settle-verdict-requires : tie.Need-settle-verdict-requires
+settle-verdict-requires c κs = search needs
+
+enum-known-v : tie.Need-enum-known-v
+enum-known-v c = search needs
+
+refuse-requires : tie.Need-refuse-requires
+refuse-requires c κs = search needs
+
+enum-told : tie.Need-enum-told
+enum-told c = search needs
+
+settle-run-requires : tie.Need-settle-run-requires
+settle-run-requires c κs = not-false _ (allowed _ _ (sym (c .before .before .settle-verdict .ensures noLengths) ∙ c .enum-told .given .1) .0)
+
+accept-requires : tie.Need-accept-requires
+accept-requires c κs = search needs
+
+returns : tie.Need-returns
+returns c =
+    let u = unmoved _ (c .refuse .ensures) in
+    (u .0, λ s. answer-refused _ _ s (c .before .before .before .before .settle-verdict .ensures (lengthsOf s)) (c .before .before .v .given .1) (u .1))
+
+returns-2 : tie.Need-returns-2
+returns-2 c =
+    let k = c .accept .ensures in
+    let e = c .before .settle-run .ensures in (
+      rw (k .1) (e .0),
+      λ s. answer-granted _ _ s (c .before .before .before .before .settle-verdict .ensures (lengthsOf s)) (c .before .before .enum-told .given .1)
+          (record { answered = k .0; held = rw (k .1) (e .1) }),
+    )
+
+pub decide-settle-spec : {M : Type 1} → statement M
+decide-settle-spec =
+    tie.close
+    (tie.spec
+    settle-verdict-requires
+    enum-known-v
+    refuse-requires
+    enum-told
+    settle-run-requires
+    accept-requires
+    returns
+    returns-2)

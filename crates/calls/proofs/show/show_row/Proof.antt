@@ -1,0 +1,91 @@
+-- `show_row` meets its contract. Assumes nothing.
+use Rattle.checks.specs.Lent.{sizes}
+-- `show_row` meets its contract. Assumes nothing.
+use mathlib.Core.Path.{sym, ap, _∙_}
+use Prim.Native.Nat.{_+_, _≤_}
+use native.Mathlib.Omega.{arith}
+use lib.ListN.{length}
+use Rattle.state.proofs.Bounds.{sound}
+use Rattle.model.specs.Step.{Outcome}
+use Rattle.checks.proofs.Deciding.{refused, granted}
+use Rattle.calls.proofs.Parts.{Showable, showable, row-ends, row-part}
+use borrow.Author.Needs.{needs}
+use Rattle.calls.proofs.show.show_row.Statement.{statement}
+use Rattle.calls.proofs.show.show_row.Tie as tie
+
+known : (c : tie.After-opening) → Showable (c .before .before .before .before .before .args .d) (c .before .before .before .before .before .args .run) (c .before .before .before .before .before .args .group) (length (c .before .before .before .before .before .args .book .now))
+known c = showable _ _ _ (sizes 0 (length (c .before .before .before .before .before .args .book .now)) 0) (sym (c .before .before .before .show-verdict .ensures 0 0) ∙ c .before .enum-told .given .1)
+
+ends : (c : tie.After-row-start) → c .row-start .result + c .before .before .before .before .before .before .args .d .opening .quarters ≤ length (c .before .before .before .before .before .before .args .book .now)
+ends c =
+    let k = known (c .before) in
+    row-ends k (c .row-start .ensures) (omega (arith, k .most))
+
+show-verdict-requires : tie.Need-show-verdict-requires
+show-verdict-requires c κs = search needs
+
+enum-told : tie.Need-enum-told
+enum-told c = search needs
+
+enum-told-2 : tie.Need-enum-told-2
+enum-told-2 c = search needs
+
+sub-result : tie.Need-sub-result
+sub-result c = search needs
+
+part-result-start : tie.Need-part-result-start
+part-result-start c = search needs
+
+part-result-end : tie.Need-part-result-end
+part-result-end c = search needs
+
+returns : tie.Need-returns
+returns c values log = ap (λ (o : Outcome). o .part) (sym (refused _ _ _ (c .before .before .before .show-verdict .ensures (length values) (length log)) (c .before .enum-told2 .given .1)))
+
+sub-row-start : tie.Need-sub-row-start
+sub-row-start c = omega (arith, known c .some)
+
+row-start-requires : tie.Need-row-start-requires
+row-start-requires c κs =
+    let k = known c in
+    record { low = k .low; high = k .high; row = omega (arith, k .most); few = k .sound .most }
+
+add-result : tie.Need-add-result
+add-result c = omega (arith, ends c, known (c .before) .whole, known (c .before) .sound .most)
+
+mul-result : tie.Need-mul-result
+mul-result c = omega (arith, ends c, known (c .before) .whole, known (c .before) .sound .most)
+
+sub-result-2 : tie.Need-sub-result-2
+sub-result-2 c = search needs
+
+part-result-start-2 : tie.Need-part-result-start-2
+part-result-start-2 c = search needs
+
+part-result-end-2 : tie.Need-part-result-end-2
+part-result-end-2 c = omega (arith, ends c)
+
+returns-2 : tie.Need-returns-2
+returns-2 c values log =
+    row-part _ _ _ _ _ (c .before .row-start .ensures)
+    ∙ ap (λ (o : Outcome). o .part) (sym (granted _ _ _ (c .before .before .before .before .before .show-verdict .ensures (length values) (length log)) (c .before .before .before .enum-told .given .1)))
+
+pub show-row-spec : {M : Type 1} → statement M
+show-row-spec =
+    tie.close
+    (tie.spec
+    show-verdict-requires
+    enum-told
+    enum-told-2
+    sub-result
+    part-result-start
+    part-result-end
+    returns
+    sub-row-start
+    row-start-requires
+    add-result
+    mul-result
+    sub-result-2
+    part-result-start-2
+    part-result-end-2
+    returns-2)

@@ -1,0 +1,42 @@
+-- `status` meets its contract. Assumes nothing.
+use mathlib.Core.Path.{refl}
+use Rattle.model.specs.Call.{lengthsOf}
+use Rattle.checks.proofs.Deciding.{answer-refused, answer-granted}
+use borrow.Author.Needs.{needs}
+use Rattle.calls.proofs.status.status.Statement.{statement}
+use Rattle.calls.proofs.status.status.Tie as tie
+
+look-requires : tie.Need-look-requires
+look-requires c κs = search needs
+
+status-verdict-requires : tie.Need-status-verdict-requires
+status-verdict-requires c κs = search needs
+
+enum-known-v : tie.Need-enum-known-v
+enum-known-v c = search needs
+
+enum-told : tie.Need-enum-told
+enum-told c = search needs
+
+status-answer-requires : tie.Need-status-answer-requires
+status-answer-requires c κs = search needs
+
+returns : tie.Need-returns
+returns c s = answer-refused _ _ s (c .before .before .before .status-verdict .ensures (lengthsOf s)) (c .before .v .given .1) (refl, refl)
+
+returns-2 : tie.Need-returns-2
+returns-2 c s =
+    answer-granted _ _ s (c .before .before .before .status-verdict .ensures (lengthsOf s)) (c .before .enum-told .given .1)
+    (record { answered = rw (c .status-answer .ensures, c .before .before .before .before .before .look .ensures .survey .held); held = refl })
+
+pub status-spec : {M : Type 1} → statement M
+status-spec =
+    tie.close
+    (tie.spec
+    look-requires
+    status-verdict-requires
+    enum-known-v
+    enum-told
+    status-answer-requires
+    returns
+    returns-2)

@@ -1,0 +1,82 @@
+// Activate: a point becomes active, with its kind, area and partner.
+use checks::Decided;
+use checks::Look;
+use checks::Outcome;
+use checks::decisions::accept;
+use checks::decisions::at_work;
+use checks::decisions::outcome;
+use checks::decisions::refuse;
+use checks::limits::series_ok;
+use checks::looks::look;
+use checks::points::is_active;
+use checks::rules::or_if;
+use effect::changes::active_record;
+use effect::changes::put_point;
+use model::Cause;
+use model::Verdict;
+use quantity::Day;
+use quantity::PointNo;
+use quantity::Version;
+use quantity::limits::day_ok;
+use quantity::limits::point_ok;
+use state::Desk;
+ghost use mathlib.Core.Path.{_≡_};
+ghost use Rattle.effect.specs.Effect.{changedBy, Fits};
+ghost use Rattle.model.specs.Call.{Stores, Lengths, activates, telling};
+ghost use Rattle.model.specs.Step.{refusalBy, step};
+ghost use Rattle.checks.specs.Look.{Looked};
+ghost use Rattle.checks.specs.Stepped.{Answered, lent};
+
+fn activate_verdict(
+    d: Desk,
+    l: Look,
+    point: PointNo,
+    kind: u64,
+    area: u64,
+    partner: u64,
+    day: Day,
+) -> Verdict
+    requires { ⌜ Looked d (point .0) 0 kind area partner l ⌝ }
+    ensures { λ r. ⌜ ((n : Lengths) → r ≡ refusalBy d (telling n (activates (point .0) kind area partner (day .0)))) ⌝ }
+{
+    let opening = d.opening;
+    let here = l.here;
+    let fits = point_ok(point) & (day_ok(day) & series_ok(kind, area, partner));
+    let v0 = at_work(l.valid, opening);
+    let v1 = or_if(v0, !fits, Cause::BadField);
+    let v2 = or_if(v1, day.0 < d.day.0, Cause::PastDay);
+    let v3 = or_if(v2, opening.correction.0 < day.0, Cause::AfterCorrection);
+    let v4 = or_if(v3, is_active(here), Cause::PointActive);
+    or_if(v4, l.taken, Cause::SameSeries)
+}
+
+// What is decided, by one look at the desk.
+pub fn decide_activate(
+    d: Desk,
+    l: Look,
+    point: PointNo,
+    kind: u64,
+    area: u64,
+    partner: u64,
+    day: Day,
+) -> Decided
+    requires { ⌜ Looked d (point .0) 0 kind area partner l ⌝ }
+    ensures { λ r. ⌜ Fits d (r .effect) × ((s : Stores) → Answered (step d (lent (activates (point .0) kind area partner (day .0)) s)) (r .answer) (changedBy d (r .effect))) ⌝ }
+{
+    let v = activate_verdict(d, l, point, kind, area, partner, day);
+    match v {
+        Verdict::Refuse(c) => refuse(d, c),
+        Verdict::Fine => {
+            let p = active_record(kind, area, partner, day);
+            accept(put_point(d, point, p, day))
+        }
+    }
+}
+
+pub fn activate(d: Desk, point: PointNo, kind: u64, area: u64, partner: u64, day: Day) -> Outcome
+    ensures { λ r. ⌜ ((s : Stores) → Answered (step d (lent (activates (point .0) kind area partner (day .0)) s)) (r .answer) (r .desk)) ⌝ }
+{
+    let l = look(d, point, Version(0), kind, area, partner);
+    let r = decide_activate(d, l, point, kind, area, partner, day);
+    outcome(d, r)
+}

@@ -1,0 +1,101 @@
+// Open: the state is made anew, whatever the old one held, and the book is all 0.
+use checks::Decided;
+use checks::Outcome;
+use checks::decisions::accept;
+use checks::decisions::outcome;
+use checks::decisions::refuse;
+use checks::limits::groups_ok;
+use checks::limits::opening_ok;
+use checks::looks::is_open;
+use checks::rules::or_if;
+use effect::changes::open_desk;
+use model::Cause;
+use model::Verdict;
+use quantity::Day;
+use state::Desk;
+use state::Opening;
+ghost use mathlib.Core.Path.{_≡_};
+ghost use lib.ListN.{length, replicate};
+ghost use Rattle.effect.specs.Effect.{changedBy, Fits};
+ghost use Rattle.model.specs.Call.{opens, telling};
+ghost use Rattle.model.specs.Step.{refusalBy, step};
+ghost use Rattle.checks.specs.Stepped.{Stepped, storesOf, lent};
+ghost use Rattle.checks.specs.Lent.{sizes};
+
+// It checks 6, then 4, and never cause 1.
+pub fn open_verdict(d: Desk, o: Opening, groups: [u64; 17]) -> Verdict
+    ensures { λ r. ⌜ r ≡ refusalBy d (telling (sizes (o .values) (o .book) (o .log)) (opens (o .quarters) (o .first .0) (o .clearing .0) (o .correction .0) groups)) ⌝ }
+{
+    let opening = d.opening;
+    let v = or_if(Verdict::Fine, is_open(opening), Cause::OpenAgain);
+    or_if(v, !(opening_ok(o) & groups_ok(groups)), Cause::BadOpening)
+}
+
+// All figures 0.
+pub fn clear(book: &mut [u64])
+    ensures { λ _. ⌜ now (book .exit) ≡ replicate (length (now (book .entry))) 0 ⌝ }
+{
+    for i in 0..book.len() {
+        book[i] = 0;
+    }
+}
+
+// What is decided; the book is cleared where it is accepted.
+pub fn decide_open(
+    d: Desk,
+    quarters: u64,
+    first: Day,
+    clearing: Day,
+    correction: Day,
+    groups: [u64; 17],
+    values: &[u64],
+    book: &mut [u64],
+    log: &[u64],
+) -> Decided
+    ensures { λ r. ⌜ Fits d (r .effect) × Stepped (step d (lent (opens quarters (first .0) (clearing .0) (correction .0) groups) (storesOf (now (values .entry)) (now (book .entry)) (now (log .entry))))) (r .answer) (changedBy d (r .effect)) (now (values .entry)) (now (book .exit)) (now (log .entry)) ⌝ }
+{
+    let o = Opening {
+        quarters,
+        first,
+        clearing,
+        correction,
+        values: values.len() as u64,
+        book: book.len() as u64,
+        log: log.len() as u64,
+    };
+    let v = open_verdict(d, o, groups);
+    match v {
+        Verdict::Refuse(c) => refuse(d, c),
+        Verdict::Fine => {
+            clear(book);
+            accept(open_desk(d, o, groups))
+        }
+    }
+}
+
+pub fn open(
+    d: Desk,
+    quarters: u64,
+    first: Day,
+    clearing: Day,
+    correction: Day,
+    groups: [u64; 17],
+    values: &[u64],
+    book: &mut [u64],
+    log: &[u64],
+) -> Outcome
+    ensures { λ r. ⌜ Stepped (step d (lent (opens quarters (first .0) (clearing .0) (correction .0) groups) (storesOf (now (values .entry)) (now (book .entry)) (now (log .entry))))) (r .answer) (r .desk) (now (values .entry)) (now (book .exit)) (now (log .entry)) ⌝ }
+{
+    let r = decide_open(
+        d,
+        quarters,
+        first,
+        clearing,
+        correction,
+        groups,
+        values,
+        book,
+        log,
+    );
+    outcome(d, r)
+}

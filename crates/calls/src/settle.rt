@@ -1,0 +1,80 @@
+// Settle: the versions that a run selects get the status of settled ones, and the run its flag.
+use checks::Decided;
+use checks::Outcome;
+use checks::decisions::accept;
+use checks::decisions::at_work;
+use checks::decisions::outcome;
+use checks::decisions::refuse;
+use checks::looks::valid;
+use checks::rules::or_if;
+use effect::changes::settle_run;
+use model::Cause;
+use model::Verdict;
+use quantity::Day;
+use quantity::limits::day_ok;
+use quantity::limits::run_ok;
+use state::Desk;
+use state::Opening;
+use state::Runs;
+ghost use mathlib.Core.Path.{_≡_};
+ghost use Rattle.effect.specs.Effect.{changedBy, Fits};
+ghost use Rattle.state.specs.Desk.{flagOf};
+ghost use Rattle.state.specs.Valid.{validDesk};
+ghost use Rattle.model.specs.Call.{Stores, Lengths, settles, telling};
+ghost use Rattle.model.specs.Causes.{deadline};
+ghost use Rattle.model.specs.Step.{refusalBy, step};
+ghost use Rattle.checks.specs.Stepped.{Answered, lent};
+
+// The last day before a run can be settled.
+pub fn deadline_of(opening: Opening, run: u64) -> Day
+    ensures { λ r. ⌜ r .0 ≡ deadline opening run ⌝ }
+{
+    let clearing = opening.clearing;
+    let correction = opening.correction;
+    if run == 1 { clearing } else { correction }
+}
+
+// Whether the run is settled.
+pub fn flag_of(settled: Runs, run: u64) -> bool
+    ensures { λ r. ⌜ r ≡ flagOf run settled ⌝ }
+{
+    if run == 1 {
+        settled.first
+    } else {
+        settled.second
+    }
+}
+
+pub fn settle_verdict(d: Desk, fit: bool, run: u64, day: Day) -> Verdict
+    requires { ⌜ fit ≡ validDesk d ⌝ }
+    ensures { λ r. ⌜ ((n : Lengths) → r ≡ refusalBy d (telling n (settles run (day .0)))) ⌝ }
+{
+    let opening = d.opening;
+    let settled = d.settled;
+    let last = deadline_of(opening, run);
+    let v0 = at_work(fit, opening);
+    let v1 = or_if(v0, !(run_ok(run) & day_ok(day)), Cause::BadField);
+    let v2 = or_if(v1, day.0 < d.day.0, Cause::PastDay);
+    let v3 = or_if(v2, day.0 <= last.0, Cause::SettleTooEarly);
+    let v4 = or_if(v3, flag_of(settled, run), Cause::AlreadySettled);
+    or_if(v4, (run == 2) & !settled.first, Cause::FirstRunOpen)
+}
+
+// What is decided, where it is known whether the desk is within its limits.
+pub fn decide_settle(d: Desk, fit: bool, run: u64, day: Day) -> Decided
+    requires { ⌜ fit ≡ validDesk d ⌝ }
+    ensures { λ r. ⌜ Fits d (r .effect) × ((s : Stores) → Answered (step d (lent (settles run (day .0)) s)) (r .answer) (changedBy d (r .effect))) ⌝ }
+{
+    let v = settle_verdict(d, fit, run, day);
+    match v {
+        Verdict::Refuse(c) => refuse(d, c),
+        Verdict::Fine => accept(settle_run(d, run, day)),
+    }
+}
+
+pub fn settle(d: Desk, run: u64, day: Day) -> Outcome
+    ensures { λ r. ⌜ ((s : Stores) → Answered (step d (lent (settles run (day .0)) s)) (r .answer) (r .desk)) ⌝ }
+{
+    let r = decide_settle(d, valid(d), run, day);
+    outcome(d, r)
+}

@@ -1,0 +1,68 @@
+// Status: that of a version of an active point. The desk stays as it is.
+use checks::Look;
+use checks::Outcome;
+use checks::decisions::at_work;
+use checks::looks::absent;
+use checks::looks::look;
+use checks::points::is_active;
+use checks::rules::or_if;
+use model::Answer;
+use model::Cause;
+use model::Verdict;
+use quantity::PointNo;
+use quantity::Version;
+use quantity::limits::point_ok;
+use quantity::limits::version_ok;
+use state::Desk;
+use state::Held;
+ghost use mathlib.Core.Path.{_≡_};
+ghost use Rattle.model.specs.Call.{Stores, Lengths, asks, telling};
+ghost use Rattle.model.specs.Step.{statusAnswer, refusalBy, step};
+ghost use Rattle.checks.specs.Look.{Looked};
+ghost use Rattle.checks.specs.Stepped.{Answered, lent};
+
+fn status_verdict(d: Desk, l: Look, point: PointNo, version: Version) -> Verdict
+    requires { ⌜ Looked d (point .0) (version .0) 0 0 0 l ⌝ }
+    ensures { λ r. ⌜ ((n : Lengths) → r ≡ refusalBy d (telling n (asks (point .0) (version .0)))) ⌝ }
+{
+    let opening = d.opening;
+    let here = l.here;
+    let survey = l.survey;
+    let held = survey.held;
+    let v0 = at_work(l.valid, opening);
+    let v1 = or_if(
+        v0,
+        !(point_ok(point) & version_ok(version)),
+        Cause::BadField,
+    );
+    let v2 = or_if(v1, !is_active(here), Cause::NotActive);
+    or_if(v2, absent(held), Cause::NoVersion)
+}
+
+pub fn status_answer(held: Held) -> Answer
+    ensures { λ r. ⌜ r ≡ statusAnswer held ⌝ }
+{
+    match held {
+        Held::Absent => Answer::Refused(Cause::NoVersion),
+        Held::Has { at: _, status } => Answer::HasStatus(status),
+    }
+}
+
+pub fn status(d: Desk, point: PointNo, version: Version) -> Outcome
+    ensures { λ r. ⌜ ((s : Stores) → Answered (step d (lent (asks (point .0) (version .0)) s)) (r .answer) (r .desk)) ⌝ }
+{
+    let l = look(d, point, version, 0, 0, 0);
+    let survey = l.survey;
+    let held = survey.held;
+    let v = status_verdict(d, l, point, version);
+    match v {
+        Verdict::Refuse(c) => Outcome {
+            answer: Answer::Refused(c),
+            desk: d,
+        },
+        Verdict::Fine => {
+            let answer = status_answer(held);
+            Outcome { answer, desk: d }
+        }
+    }
+}

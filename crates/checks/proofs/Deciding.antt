@@ -1,0 +1,107 @@
+-- The table of causes and the step, as a call's proof goes through them: check by check, then refused or granted. Assumes nothing.
+use Prim.Native.Nat.{ℕ, _*_}
+use mathlib.Core.Path.{_≡_, refl, sym, _∙_}
+use mathlib.Core.Bool.{Bool, true, false, not, _&&_, or-false}
+use mathlib.Core.List.{List, []}
+use borrow.Author.Tests.{eqb-true, not-false}
+use lib.Dec.{eqb}
+use Rattle.state.specs.Desk.{isOpen}
+use Rattle.quantity.specs.Limits.{quartersOk, deadlinesOk}
+use Rattle.quantity.proofs.Tests.{and-left, and-right}
+use Rattle.state.specs.Valid.{openingOk, validDesk}
+use Rattle.state.specs.declared.Desk.{Desk}
+use Rattle.state.specs.declared.Opening.{Opening}
+use Rattle.effect.specs.Effect.{changedBy, unchangedIn, Fits}
+use Rattle.model.specs.Call.{Call, Stores, Told, Lengths, theBook, told}
+use Rattle.model.specs.Causes.{terms, rule, rules, orIf, otherLengths, opensOk}
+use Rattle.model.specs.Step.{refusalBy, granting, decided, step}
+use Rattle.model.specs.View.{viewOf}
+use Rattle.model.specs.declared.Answer.{Answer}
+use Rattle.model.specs.declared.Answer.the-variants.{Refused}
+use Rattle.model.specs.declared.Cause.{Cause}
+use Rattle.model.specs.declared.Cause.the-variants.{NotOpen}
+use Rattle.model.specs.declared.Verdict.{Verdict}
+use Rattle.model.specs.declared.Verdict.the-variants.{Fine, Refuse}
+use Rattle.checks.specs.Lent.{sizes}
+use Rattle.checks.specs.declared.Decided.{Decided}
+use Rattle.checks.specs.Stepped.{IsAnswer, IsBookStep, IsStep, lent}
+use Rattle.model.specs.Laws.{Passed}
+use Rattle.model.proofs.Rules.{passed}
+
+-- one check more: the verdict so far, and the test, as the table has them
+pub checked : {v w r : Verdict} {t s : Bool} (c : Cause) → r ≡ orIf v t c → v ≡ w → t ≡ s → r ≡ orIf w s c
+checked c e h k = cc
+
+-- cause 1, by what one look found
+pub begun : (d : Desk) {r : Verdict} {t : Bool} → r ≡ orIf (orIf Fine (not t) NotOpen) (not (isOpen (d .frame .opening))) NotOpen → t ≡ validDesk d
+    → r ≡ orIf (orIf Fine (not (validDesk d)) NotOpen) (not (isOpen (d .frame .opening))) NotOpen
+begun d e h = cc
+
+-- open is not asked for cause 1
+pub unasked : Fine ≡ orIf Fine false NotOpen
+unfolding orIf
+unasked = refl
+
+-- a call that is not refused has passed cause 1 and its table
+pub allowed : (d : Desk) (t : Told) → refusalBy d t ≡ Fine
+    → Passed (rule (not (terms (t .call) .opening) && not (validDesk d)) NotOpen (rules (viewOf d) (t .lengths) (t .call)))
+unfolding refusalBy
+allowed d t e = passed _ e
+
+-- lengths for a call that takes no store: any will do
+abbrev pub noLengths : Lengths
+noLengths = sizes 0 0 0
+
+-- cause 2 of a call that takes the book alone
+pub book-other : (n : Lengths) (o : Opening) → not (eqb (n .book) (o .book)) ≡ otherLengths theBook n o
+unfolding otherLengths
+book-other n o = sym (or-false (not (eqb (n .book) (o .book))))
+
+-- past it, the book has its opening length
+pub book-same : (n : Lengths) (o : Opening) → otherLengths theBook n o ≡ false → n .book ≡ o .book
+book-same n o e = eqb-true (n .book) (o .book) (not-false _ (book-other n o ∙ e))
+
+-- an opening that is allowed has a book of 162 rows
+pub opens-book : (o : Opening) (gs : List ℕ) → opensOk o gs ≡ true → o .book ≡ 162 * o .quarters
+unfolding opensOk openingOk
+opens-book o gs e =
+    let q = quartersOk (o .quarters) in
+    let f = deadlinesOk (o .first .0) (o .clearing .0) (o .correction .0) in
+    eqb-true (o .book) (162 * o .quarters) (and-left _ _ (and-right f _ (and-right q _ (and-left (openingOk o) _ e))))
+
+-- what a refusal decides
+pub unmoved : (d : Desk) {x : Cause} {r : Decided} → (r .answer ≡ Refused x) × (r .effect ≡ unchangedIn (d .frame))
+    → Fits d (r .effect) × ((r .answer ≡ Refused x) × (changedBy d (r .effect) ≡ d))
+unmoved d h = (rw (h .1) tt, (h .0, rw (h .1)))
+
+module _ (d : Desk) (c : Call) (s : Stores) {v : Verdict} (e : v ≡ refusalBy d (told (lent c s))) where
+  -- a refused call changes nothing
+  pub refused : {x : Cause} → v ≡ Refuse x → step d (lent c s) ≡ record { answer = Refused x; part = []; desk = d; stores = s }
+  unfolding step decided
+  refused h = rw (sym e ∙ h)
+
+  -- a call that is not refused is granted
+  pub granted : v ≡ Fine → step d (lent c s) ≡ granting d s c
+  unfolding step decided
+  granted h = rw (sym e ∙ h)
+
+  -- the same of a call that takes no store
+  pub answer-refused : {x : Cause} {a : Answer} {n : Desk} → v ≡ Refuse x → (a ≡ Refused x) × (n ≡ d) → IsAnswer (step d (lent c s)) a n
+  answer-refused h r = rw (refused h) (record { answered = r .0; held = r .1 })
+
+  pub answer-granted : {a : Answer} {n : Desk} → v ≡ Fine → IsAnswer (granting d s c) a n → IsAnswer (step d (lent c s)) a n
+  answer-granted h g = rw (granted h) g
+
+  -- of one that takes the book
+  pub book-refused : {x : Cause} {a : Answer} {n : Desk} → v ≡ Refuse x → (a ≡ Refused x) × (n ≡ d) → IsBookStep (step d (lent c s)) a n (s .book)
+  book-refused h r = rw (refused h) (record { answered = r .0; held = r .1; booked = refl })
+
+  pub book-granted : {a : Answer} {n : Desk} {book : List ℕ} → v ≡ Fine → IsBookStep (granting d s c) a n book → IsBookStep (step d (lent c s)) a n book
+  book-granted h g = rw (granted h) g
+
+  -- of one that takes them all
+  pub all-refused : {x : Cause} {a : Answer} {n : Desk} → v ≡ Refuse x → (a ≡ Refused x) × (n ≡ d) → IsStep (step d (lent c s)) a n (s .values) (s .book) (s .log)
+  all-refused h r = rw (refused h) (record { answered = r .0; held = r .1; valued = refl; booked = refl; noted = refl })
+
+  pub all-granted : {a : Answer} {n : Desk} {values book log : List ℕ} → v ≡ Fine → IsStep (granting d s c) a n values book log → IsStep (step d (lent c s)) a n values book log
+  all-granted h g = rw (granted h) g

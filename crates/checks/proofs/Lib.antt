@@ -1,0 +1,4 @@
+pub mod Deciding
+pub mod Found
+pub mod Lengths
+pub mod Untaken

@@ -1,0 +1,4 @@
+pub mod Lent
+pub mod Look
+pub mod Stepped
+pub mod Survey

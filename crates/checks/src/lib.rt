@@ -1,0 +1,61 @@
+// What every call begins and ends with: the limits of cause 1, one look at the desk, the table of causes check by check, what is decided.
+pub mod decisions;
+pub mod limits;
+pub mod looks;
+pub mod numbers;
+pub mod points;
+pub mod rules;
+pub mod stores;
+pub mod surveys;
+
+use effect::Effect;
+use model::Answer;
+use state::Desk;
+use state::Held;
+use state::PointState;
+use state::Selection;
+
+// What one walk over the versions finds: whether each record held is within its limits, the version asked for, and of the point asked for
+// the highest version, run 1's selection and run 2's own.
+pub struct Survey {
+    pub fit: bool,
+    pub held: Held,
+    pub highest: Selection,
+    pub first: Selection,
+    pub second: Selection,
+}
+
+// What one walk over the points finds: whether each record is within its limits, and whether an active point has the kind, area and
+// partner asked for.
+pub struct Scan {
+    pub fit: bool,
+    pub taken: bool,
+}
+
+// What one walk over the points and one over the versions tell: whether the desk is within its limits (cause 1), the state of the point asked
+// for, whether an active point has the series asked for, and what the versions have of the point and version asked for.
+pub struct Look {
+    pub valid: bool,
+    pub here: PointState,
+    pub taken: bool,
+    pub survey: Survey,
+}
+
+// The lengths of the stores lent to a call.
+pub struct Sizes {
+    pub values: u64,
+    pub book: u64,
+    pub log: u64,
+}
+
+// The answer of a call, and what it makes of the desk.
+pub struct Decided {
+    pub answer: Answer,
+    pub effect: Effect,
+}
+
+// The answer of a call, and the desk after it.
+pub struct Outcome {
+    pub answer: Answer,
+    pub desk: Desk,
+}

@@ -1,0 +1,34 @@
+-- `notice` meets its contract. Assumes nothing.
+use borrow.Author.Needs.{needs}
+use Rattle.notice.proofs.call.notice.Statement.{statement}
+use Rattle.notice.proofs.call.notice.Tie as tie
+
+look-requires : tie.Need-look-requires
+look-requires c κs = search needs
+
+decide-notice-requires : tie.Need-decide-notice-requires
+decide-notice-requires c κs = search needs
+
+outcome-requires : tie.Need-outcome-requires
+outcome-requires c κs = search needs
+
+same-length : tie.Need-same-length
+same-length c = search needs
+
+same-length-2 : tie.Need-same-length-2
+same-length-2 c = search needs
+
+returns : tie.Need-returns
+returns c =
+    rw (c .outcome .ensures .0, c .outcome .ensures .1) (c .before .before .before .before .before .decide-notice .ensures .1)
+
+pub notice-spec : {M : Type 1} → statement M
+notice-spec =
+    tie.close
+    (tie.spec
+    look-requires
+    decide-notice-requires
+    outcome-requires
+    same-length
+    same-length-2
+    returns)

@@ -1,0 +1,37 @@
+-- `submit` meets its contract. Assumes nothing.
+use borrow.Author.Needs.{needs}
+use Rattle.submit.proofs.call.submit.Statement.{statement}
+use Rattle.submit.proofs.call.submit.Tie as tie
+
+look-requires : tie.Need-look-requires
+look-requires c κs = search needs
+
+decide-submit-requires : tie.Need-decide-submit-requires
+decide-submit-requires c κs = search needs
+
+outcome-requires : tie.Need-outcome-requires
+outcome-requires c κs = search needs
+
+same-length : tie.Need-same-length
+same-length c = search needs
+
+same-length-2 : tie.Need-same-length-2
+same-length-2 c = search needs
+
+same-length-3 : tie.Need-same-length-3
+same-length-3 c = search needs
+
+returns : tie.Need-returns
+returns c = rw (c .outcome .ensures .0, c .outcome .ensures .1) (c .before .before .before .before .before .before .before .decide-submit .ensures .1)
+
+pub submit-spec : {M : Type 1} → statement M
+submit-spec =
+    tie.close
+    (tie.spec
+    look-requires
+    decide-submit-requires
+    outcome-requires
+    same-length
+    same-length-2
+    same-length-3
+    returns)
