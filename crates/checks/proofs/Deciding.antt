@@ -2,18 +2,19 @@
 use Prim.Native.Nat.{ℕ, _*_}
 use mathlib.Core.Path.{_≡_, refl, sym, _∙_}
 use mathlib.Core.Bool.{Bool, true, false, not, _&&_, or-false}
-use mathlib.Core.List.{List, []}
+use mathlib.Core.List.{List, [], _∷_}
 use borrow.Author.Tests.{eqb-true, not-false}
 use lib.Dec.{eqb}
 use Rattle.state.specs.Desk.{isOpen}
 use Rattle.quantity.specs.Limits.{quartersOk, deadlinesOk}
+use Rattle.quantity.specs.Lists.{fold}
 use Rattle.quantity.proofs.Tests.{and-left, and-right}
 use Rattle.state.specs.Valid.{openingOk, validDesk}
 use Rattle.state.specs.declared.Desk.{Desk}
 use Rattle.state.specs.declared.Opening.{Opening}
 use Rattle.effect.specs.Effect.{changedBy, unchangedIn, Fits}
 use Rattle.model.specs.Call.{Call, Stores, Told, Lengths, theBook, told}
-use Rattle.model.specs.Causes.{terms, rule, rules, orIf, otherLengths, opensOk}
+use Rattle.model.specs.Causes.{Rule, terms, rule, rules, orIf, orRule, firstOf, otherLengths, opensOk}
 use Rattle.model.specs.Step.{refusalBy, granting, decided, step}
 use Rattle.model.specs.View.{viewOf}
 use Rattle.model.specs.declared.Answer.{Answer}
@@ -47,6 +48,23 @@ pub allowed : (d : Desk) (t : Told) → refusalBy d t ≡ Fine
     → Passed (rule (not (terms (t .call) .opening) && not (validDesk d)) NotOpen (rules (viewOf d) (t .lengths) (t .call)))
 unfolding refusalBy
 allowed d t e = passed _ e
+
+-- what is refused stays refused
+stays : (x : Cause) (l : List Rule) → fold orRule (Refuse x) l ≡ Refuse x
+unfolding fold orIf
+stays x [] = refl
+stays x (r ∷ l) = stays x l
+
+module _ (d : Desk) (t : Told) (asked : terms (t .call) .opening ≡ false) where
+  -- a desk outside its limits: cause 1
+  pub unfit : validDesk d ≡ false → refusalBy d t ≡ Refuse NotOpen
+  unfolding refusalBy firstOf fold orIf
+  unfit e = rw (asked, e) (stays NotOpen (rules (viewOf d) (t .lengths) (t .call)))
+
+  -- on one within them the table decides
+  pub fit : validDesk d ≡ true → refusalBy d t ≡ firstOf (rules (viewOf d) (t .lengths) (t .call))
+  unfolding refusalBy firstOf fold orIf
+  fit e = rw (asked, e)
 
 -- lengths for a call that takes no store: any will do
 abbrev pub noLengths : Lengths

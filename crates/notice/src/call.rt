@@ -1,6 +1,6 @@
 // Notice: a positive one turns check data into settlement data, or after C into correction settlement data; a negative one changes no status.
 use crate::Noticed;
-use crate::checks::notice_ok;
+use crate::conditions::notice_ok;
 use amend::Turn;
 use amend::ValueRows;
 use amend::log::due_by;

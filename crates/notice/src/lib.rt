@@ -1,5 +1,5 @@
 // Notice: a verdict on a version that was delivered. Book and log follow.
-pub mod checks;
+pub mod conditions;
 pub mod notice;
 
 use amend::Turn;

@@ -3,36 +3,39 @@ use mathlib.Core.Path.{_≡_}
 use mathlib.Core.Bool.{true, cond}
 use mathlib.Core.List.{List}
 use Prim.Native.Nat.{ℕ, _+_, _*_, _≤_, _<_}
-use lib.IntN.{ℤ}
 use lib.ListN.{length}
 use Rattle.quantity.specs.Limits.{bookRows, pointOk, versionOk, versions}
 use Rattle.quantity.specs.declared.Version.{Version}
 use Rattle.state.specs.Change.{submitted}
-use Rattle.state.specs.Desk.{versionsIn}
+use Rattle.state.specs.Desk.{versionsIn, rowsUsed}
 use Rattle.state.specs.Point.{pointAt}
 use Rattle.state.specs.Selection.{raise}
 use Rattle.state.specs.Status.{counts, submittedStatus}
-use Rattle.state.specs.Valid.{validDesk, Sound}
+use Rattle.state.specs.Valid.{Sound}
 use Rattle.state.specs.declared.Desk.{Desk}
+use Rattle.state.specs.declared.Frame.{Frame}
 use Rattle.state.specs.declared.PointState.{PointState}
+use Rattle.state.specs.declared.Selection.{Selection}
 use Rattle.state.specs.declared.VersionRecord.{VersionRecord}
+use Rattle.state.specs.declared.VersionRow.{VersionRow}
 use Rattle.checks.specs.declared.Survey.{Survey}
-use Rattle.model.specs.Call.{submits}
-use Rattle.model.specs.Log.{dueBy, due as dueOf}
-use Rattle.model.specs.Step.{versionBy, refusalBy}
+use Rattle.model.specs.Log.{turnOf, due as dueOf}
+use Rattle.model.specs.Step.{versionBy}
 use Rattle.model.specs.declared.Due.{Due}
+use Rattle.model.specs.declared.Turn.{Turn}
 use Rattle.amend.specs.Lent.{RoomIn}
-use Rattle.amend.specs.declared.Turn.{Turn}
-use Rattle.checks.specs.Lent.{lengthsIn, Turned}
-use Rattle.checks.specs.declared.Sizes.{Sizes}
-use Rattle.submit.specs.declared.Judged.{Judged}
+
+-- the row of the version table that a submission takes
+abbrev pub rowBy : Frame → Version → VersionRow
+rowBy f x = record { at = f .count; version = x; row = record { 0 = rowsUsed f } }
+
+-- a run's own selection then, where the status that the day gives counts in it
+abbrev pub ownBy : (run : ℕ) → Frame → Version → (day : ℕ) → Selection → Selection
+ownBy run f x day s = cond (counts run (submittedStatus (f .opening .first .0) day)) (raise s (rowBy f x)) s
 
 -- what a submission makes of the selections found
-pub record SubmitTurn (first day count : ℕ) (version : Version) (s : Survey) (t : Turn) : Type 0 where
-  pub old1 : t .old1 ≡ s .first
-  pub new1 : t .new1 ≡ cond (counts 1 (submittedStatus first day)) (raise (s .first) count version) (s .first)
-  pub old2 : t .old2 ≡ s .second
-  pub new2 : t .new2 ≡ cond (counts 2 (submittedStatus first day)) (raise (s .second) count version) (s .second)
+abbrev pub turnBy : Frame → Version → (day : ℕ) → Survey → Turn
+turnBy f x day s = record { old1 = s .first; new1 = ownBy 1 f x day (s .first); old2 = s .second; new2 = ownBy 2 f x day (s .second) }
 
 -- the versions with the one that a submission makes
 abbrev pub submittedIn : Desk → (point version day : ℕ) → List VersionRecord
@@ -45,18 +48,11 @@ pub record Granted (d : Desk) (s : PointState) (p x day : ℕ) (series values bo
   pub table : length (d .versions) ≡ versions
   pub point : pointOk p ≡ true
   pub version : versionOk x ≡ true
-  pub long : length values ≡ d .opening .values
-  pub whole : length book ≡ bookRows * d .opening .quarters
-  pub full : length series ≡ d .opening .quarters
-  pub more : d .count < versions
-  pub room : (d .count + 1) * d .opening .quarters ≤ d .opening .values
-  pub left : RoomIn (d .used) log due
-  pub turn : Turned (versionsIn d) (submittedIn d p x day) p t
+  pub long : length values ≡ d .frame .opening .values
+  pub whole : length book ≡ bookRows * d .frame .opening .quarters
+  pub full : length series ≡ d .frame .opening .quarters
+  pub more : d .frame .count < versions
+  pub room : (d .frame .count + 1) * d .frame .opening .quarters ≤ d .frame .opening .values
+  pub left : RoomIn (d .frame .used) log due
+  pub turn : t ≡ turnOf (versionsIn d) (submittedIn d p x day) p
   pub row : due ≡ dueOf (versionsIn d) (submittedIn d p x day) p day
-
--- the table's verdict on a submission, the selections it would make, and the log row due
-pub record JudgedSubmit (d : Desk) (p x day : ℕ) (n : Sizes) (es : List ℤ) (j : Judged) : Type 0 where
-  pub table : length (d .versions) ≡ versions
-  pub verdict : j .verdict ≡ refusalBy d (record { call = submits p x day es; lengths = lengthsIn n })
-  pub turn : validDesk d ≡ true → Turned (versionsIn d) (submittedIn d p x day) p (j .turn)
-  pub due : j .due ≡ dueBy (j .turn .old1) (j .turn .new1) (j .turn .old2) (j .turn .new2) p day

@@ -1,17 +1,17 @@
 -- `submit_checks` meets its contract. Assumes nothing.
-use Rattle.state.specs.Change.{submitted}
-use Rattle.state.specs.Desk.{versionsIn}
-use Rattle.state.specs.Version.{newVersion}
-use Rattle.model.specs.Log.{due}
 use mathlib.Core.Path.{refl, sym, ap, _∙_}
 use mathlib.Core.Bool.{not, _||_}
 use Prim.Native.Nat.{ℕ, _+_, _*_}
 use lib.Dec.{leb, ltb}
 use Rattle.quantity.specs.Lists.{fold}
+use Rattle.state.specs.Change.{submitted}
+use Rattle.state.specs.Desk.{versionsIn}
 use Rattle.state.specs.Point.{isActive, sinceOf}
 use Rattle.state.specs.Selection.{versionOf}
+use Rattle.state.specs.Version.{newVersion}
 use Rattle.state.specs.declared.PointState.{PointState}
 use Rattle.model.specs.Causes.{firstOf, isAbsent, logFull}
+use Rattle.model.specs.Log.{due}
 use Rattle.model.specs.declared.Cause.the-variants.{NotOpen, WrongLength, BadField, PastDay, AfterCorrection, NotActive, TooEarly, VersionPresent, VersionBelow, NoRow, NoLogRow}
 use Rattle.checks.proofs.Deciding.{checked}
 use borrow.Author.Needs.{needs}
@@ -67,13 +67,13 @@ or-if-requires-9 : tie.Need-or-if-requires-9
 or-if-requires-9 c κs = search needs
 
 no-row-requires : tie.Need-no-row-requires
-no-row-requires c κs = (c .before .before .before .before .before .before .before .before .before .before .before .before .before .before .before .before .before .before .before .before .before .before .before .before .before .pre .0 .count, c .before .before .before .before .before .before .before .before .before .before .before .before .before .before .before .before .before .before .before .before .before .before .before .before .before .pre .0 .most)
+no-row-requires c κs = let s = c .before .before .before .before .before .before .before .before .before .before .before .before .before .before .before .before .before .before .before .before .before .before .before .before .before .before in (s .pre .0 .count, s .pre .0 .most)
 
 or-if-requires-10 : tie.Need-or-if-requires-10
 or-if-requires-10 c κs = search needs
 
 log-full-requires : tie.Need-log-full-requires
-log-full-requires c κs = c .before .before .before .before .before .before .before .before .before .before .before .before .before .before .before .before .before .before .before .before .before .before .before .before .before .before .before .pre .0 .used
+log-full-requires c κs = c .before .before .before .before .before .before .before .before .before .before .before .before .before .before .before .before .before .before .before .before .before .before .before .before .before .before .before .before .pre .0 .used
 
 or-if-requires-11 : tie.Need-or-if-requires-11
 or-if-requires-11 c κs = search needs
@@ -81,8 +81,9 @@ or-if-requires-11 c κs = search needs
 returns : tie.Need-returns
 unfolding firstOf fold
 returns c =
-    let s = c .before .before .before .before .before .before .before .before .before .before .before .before .before .before .before .before .before .before .before .before .before .before .before .before .before .before .before .before .before in
+    let s = c .before .before .before .before .before .before .before .before .before .before .before .before .before .before .before .before .before .before .before .before .before .before .before .before .before .before .before .before .before .before in
     let a = s .args in
+    let d = a .d in
     let f = s .pre .1 .0 .survey in
     let n = s .pre .1 .1 .0 in
     let here = s .pre .1 .0 .here in
@@ -95,8 +96,8 @@ returns c =
     let k6 = checked TooEarly (c .before .before .before .before .before .before .before .before .before .before .or-if7 .ensures) k5 (c .before .before .before .before .before .before .before .before .before .before .before .too-early .ensures ∙ ap (λ (p : PointState). ltb (a .day .0) (sinceOf p + 2)) here) in
     let k7 = checked VersionPresent (c .before .before .before .before .before .before .before .before .or-if8 .ensures) k6 (ap not (c .before .before .before .before .before .before .before .before .before .absent .ensures ∙ ap isAbsent (f .held))) in
     let k8 = checked VersionBelow (c .before .before .before .before .or-if9 .ensures) k7 (ap (ltb (a .version .0)) (c .before .before .before .before .before .before .before .version-of .ensures ∙ ap versionOf (f .highest))) in
-    let k9 = checked NoRow (c .before .before .or-if10 .ensures) k8 (c .before .before .before .no-row .ensures ∙ ap (λ (m : ℕ). leb 512 m || ltb (a .d .opening .values) ((m + 1) * a .d .opening .quarters)) (sym n)) in
-    checked NoLogRow (c .or-if11 .ensures) k9 (c .before .log-full .ensures ∙ ap (logFull (a .d .used) (a .d .opening .log)) (s .pre .1 .1 .1 ∙ ap (λ (m : ℕ). due (versionsIn (a .d)) (submitted (newVersion (a .d .opening .first .0) m (a .point .0) (a .version .0) (a .day .0)) (versionsIn (a .d))) (a .point .0) (a .day .0)) (sym n)))
+    let k9 = checked NoRow (c .before .before .or-if10 .ensures) k8 (c .before .before .before .no-row .ensures ∙ ap (λ (m : ℕ). leb 512 m || ltb (d .frame .opening .values) ((m + 1) * d .frame .opening .quarters)) (sym n)) in
+    checked NoLogRow (c .or-if11 .ensures) k9 (c .before .log-full .ensures ∙ ap (logFull (d .frame .used) (d .frame .opening .log)) (s .pre .1 .1 .1 ∙ ap (λ (m : ℕ). due (versionsIn d) (submitted (newVersion (d .frame .opening .first .0) m (a .point .0) (a .version .0) (a .day .0)) (versionsIn d)) (a .point .0) (a .day .0)) (sym n)))
 
 pub submit-checks-spec : {M : Type 1} → statement M
 submit-checks-spec =

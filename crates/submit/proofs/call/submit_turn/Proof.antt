@@ -1,11 +1,13 @@
 -- `submit_turn` meets its contract. Assumes nothing.
-use mathlib.Core.Path.{refl, _∙_}
 use borrow.Author.Needs.{needs}
 use Rattle.submit.proofs.call.submit_turn.Statement.{statement}
 use Rattle.submit.proofs.call.submit_turn.Tie as tie
 
 submitted-status-requires : tie.Need-submitted-status-requires
 submitted-status-requires c κs = search needs
+
+cast-t13 : tie.Need-cast-t13
+cast-t13 c = search needs
 
 counts-in-requires : tie.Need-counts-in-requires
 counts-in-requires c κs = search needs
@@ -21,19 +23,14 @@ raised-if-requires-2 c κs = search needs
 
 returns : tie.Need-returns
 returns c =
-    let status = c .before .before .before .before .submitted-status .ensures in
-    record {
-      old1 = refl;
-      new1 = c .before .before .raised-if .ensures ∙ rw (c .before .before .before .counts-in .ensures, status);
-      old2 = refl;
-      new2 = c .raised-if2 .ensures ∙ rw (c .before .counts-in2 .ensures, status);
-    }
+    rw (c .raised-if2 .ensures, c .before .before .raised-if .ensures, c .before .before .before .counts-in .ensures, c .before .counts-in2 .ensures, c .before .before .before .before .before .submitted-status .ensures)
 
 pub submit-turn-spec : {M : Type 1} → statement M
 submit-turn-spec =
     tie.close
     (tie.spec
     submitted-status-requires
+    cast-t13
     counts-in-requires
     raised-if-requires
     counts-in-requires-2

@@ -4,6 +4,7 @@ use quantity::Day;
 use quantity::PointNo;
 use quantity::Version;
 use quantity::WattHours;
+use quantity::limits::VERSIONS;
 use quantity::limits::day_ok;
 use quantity::limits::energy_ok;
 use quantity::limits::point_ok;
@@ -57,5 +58,5 @@ pub fn no_row(count: u64, q: u64, values: u64) -> bool
     requires { ⌜ (count ≤ versions) × (q ≤ mostQuarters) ⌝ }
     ensures { λ r. ⌜ r ≡ (leb versions count || ltb values ((count + 1) * q)) ⌝ }
 {
-    (512 <= count) | (values < (count + 1) * q)
+    (VERSIONS <= count) | (values < (count + 1) * q)
 }

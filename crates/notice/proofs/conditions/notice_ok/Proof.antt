@@ -1,7 +1,7 @@
 -- `notice_ok` meets its contract. Assumes nothing.
 use borrow.Author.Needs.{needs}
-use Rattle.notice.proofs.checks.notice_ok.Statement.{statement}
-use Rattle.notice.proofs.checks.notice_ok.Tie as tie
+use Rattle.notice.proofs.conditions.notice_ok.Statement.{statement}
+use Rattle.notice.proofs.conditions.notice_ok.Tie as tie
 
 point-ok-requires : tie.Need-point-ok-requires
 point-ok-requires c κs = search needs

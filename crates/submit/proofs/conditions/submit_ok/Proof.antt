@@ -2,8 +2,8 @@
 use lib.ListN.{length-map}
 use Rattle.quantity.specs.Word.{signed}
 use borrow.Author.Needs.{needs}
-use Rattle.submit.proofs.checks.submit_ok.Statement.{statement}
-use Rattle.submit.proofs.checks.submit_ok.Tie as tie
+use Rattle.submit.proofs.conditions.submit_ok.Statement.{statement}
+use Rattle.submit.proofs.conditions.submit_ok.Tie as tie
 
 point-ok-requires : tie.Need-point-ok-requires
 point-ok-requires c κs = search needs

@@ -3,8 +3,8 @@ use Prim.Native.Nat.{_+_, _≤_}
 use native.Mathlib.Omega.{arith}
 use native.Mathlib.Nat.{mul-le-mul-right}
 use borrow.Author.Needs.{needs}
-use Rattle.submit.proofs.checks.no_row.Statement.{statement}
-use Rattle.submit.proofs.checks.no_row.Tie as tie
+use Rattle.submit.proofs.conditions.no_row.Statement.{statement}
+use Rattle.submit.proofs.conditions.no_row.Tie as tie
 
 add-result : tie.Need-add-result
 add-result c = search needs

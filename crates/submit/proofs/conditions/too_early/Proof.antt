@@ -7,8 +7,8 @@ use borrow.Author.Tests.{lt-ltb, ltb-true}
 use lib.Dec.{ltb}
 use Rattle.quantity.proofs.Tests.{same-test}
 use borrow.Author.Needs.{needs}
-use Rattle.submit.proofs.checks.too_early.Statement.{statement}
-use Rattle.submit.proofs.checks.too_early.Tie as tie
+use Rattle.submit.proofs.conditions.too_early.Statement.{statement}
+use Rattle.submit.proofs.conditions.too_early.Tie as tie
 
 since-of-requires : tie.Need-since-of-requires
 since-of-requires c κs = search needs
