@@ -1,10 +1,6 @@
 // Notice: a positive one turns check data into settlement data, or after C into correction settlement data; a negative one changes no status.
-use crate::Noticed;
 use crate::conditions::notice_ok;
-use amend::Turn;
-use amend::ValueRows;
 use amend::log::due_by;
-use amend::runs::rows_after;
 use amend::turns::follow;
 use checks::Decided;
 use checks::Look;
@@ -15,6 +11,7 @@ use checks::decisions::accept;
 use checks::decisions::outcome;
 use checks::decisions::refuse;
 use checks::looks::absent;
+use checks::looks::asking;
 use checks::looks::is_open;
 use checks::looks::look;
 use checks::looks::not_check;
@@ -28,11 +25,13 @@ use effect::changes::restated;
 use effect::effects::unchanged;
 use model::Cause;
 use model::Due;
+use model::Turn;
 use model::Verdict;
 use quantity::Day;
 use quantity::PointNo;
 use quantity::Version;
 use state::Desk;
+use state::Frame;
 use state::Held;
 use state::Opening;
 use state::PointState;
@@ -40,42 +39,33 @@ use state::Selection;
 use state::Status;
 use state::VersionRecord;
 use state::selections::raised_earlier;
+use state::selections::row_at;
 use state::statuses::confirmed_status;
 use state::statuses::counts_in;
 use state::statuses::is_check;
 ghost use mathlib.Core.Path.{_≡_};
-ghost use mathlib.Core.Bool.{true};
 ghost use Rattle.state.specs.Desk.{versionsIn};
-ghost use Rattle.state.specs.Valid.{Sound, stateOk};
+ghost use Rattle.state.specs.Valid.{Sound};
 ghost use Rattle.effect.specs.Effect.{changedBy, Fits};
 ghost use Rattle.model.specs.Call.{notices};
-ghost use Rattle.model.specs.Causes.{rules, firstOf};
+ghost use Rattle.model.specs.Causes.{rules, firstOf, asking as askingFor};
 ghost use Rattle.model.specs.Log.{due as dueOf};
-ghost use Rattle.model.specs.Step.{step};
 ghost use Rattle.model.specs.View.{viewOf};
-ghost use Rattle.checks.specs.Survey.{RecordOf};
-ghost use Rattle.amend.specs.Rows.{RowsFor};
-ghost use Rattle.checks.specs.Look.{Looked};
-ghost use Rattle.checks.specs.Stepped.{storesOf, lent, Stepped};
 ghost use Rattle.checks.specs.Lent.{lengthsIn};
-ghost use Rattle.notice.specs.Notice.{noticedIn, ownAfter, NoticeTurn, JudgedNotice, noticedRecord, NoticeFits, NoticeEffect};
+ghost use Rattle.checks.specs.Look.{Looked};
+ghost use Rattle.checks.specs.Stepped.{Stepped};
+ghost use Rattle.notice.specs.Notice.{noticedIn, ownBy, turnBy, noticedRecord, NoticeFits, NoticeEffect};
 
 // What a notice on the version found makes of a run's own selection; positive, it gives check data the status `confirmed`.
-fn own_after(
-    run: u64,
-    old: Selection,
-    held: Held,
-    version: Version,
-    verdict: u64,
-    confirmed: Status,
-) -> Selection
-    ensures { λ r. ⌜ r ≡ ownAfter run version verdict confirmed held old ⌝ }
+fn own_after(run: u64, old: Selection, held: Held, verdict: u64, confirmed: Status) -> Selection
+    ensures { λ r. ⌜ r ≡ ownBy run verdict confirmed held old ⌝ }
 {
     match held {
         Held::Absent => old,
-        Held::Has { at, status } => {
+        Held::Has { at, record } => {
+            let status = record.status;
             if (verdict == 1) & (is_check(status) & counts_in(run, confirmed)) {
-                raised_earlier(old, at, version)
+                raised_earlier(old, row_at(at, restated(record, confirmed)))
             } else {
                 old
             }
@@ -84,15 +74,17 @@ fn own_after(
 }
 
 // The same of both runs.
-pub fn notice_turn(clearing: Day, s: Survey, version: Version, verdict: u64, day: Day) -> Turn
-    ensures { λ r. ⌜ NoticeTurn (clearing .0) s version verdict (day .0) r ⌝ }
+pub fn notice_turn(f: Frame, s: Survey, verdict: u64, day: Day) -> Turn
+    ensures { λ r. ⌜ r ≡ turnBy f verdict (day .0) s ⌝ }
 {
+    let opening = f.opening;
+    let clearing = opening.clearing;
     let held = s.held;
     let old1 = s.first;
     let old2 = s.second;
     let confirmed = confirmed_status(clearing, day);
-    let new1 = own_after(1, old1, held, version, verdict, confirmed);
-    let new2 = own_after(2, old2, held, version, verdict, confirmed);
+    let new1 = own_after(1, old1, held, verdict, confirmed);
+    let new2 = own_after(2, old2, held, verdict, confirmed);
     Turn {
         old1,
         new1,
@@ -113,11 +105,12 @@ fn notice_checks(
     n: Sizes,
 ) -> Verdict
     requires { ⌜ Sound d ⌝ }
-    requires { ⌜ Looked d (point .0) (version .0) 0 0 0 l ⌝ }
+    requires { ⌜ Looked d (askingFor (point .0) (version .0) 0 0 0) l ⌝ }
     requires { ⌜ due ≡ dueOf (versionsIn d) (noticedIn d (point .0) (version .0) verdict (day .0)) (point .0) (day .0) ⌝ }
     ensures { λ r. ⌜ r ≡ firstOf (rules (viewOf d) (lengthsIn n) (notices (point .0) (version .0) verdict (day .0))) ⌝ }
 {
-    let o = d.opening;
+    let f = d.frame;
+    let o = f.opening;
     let here = l.here;
     let found = l.survey;
     let held = found.held;
@@ -128,48 +121,12 @@ fn notice_checks(
         !notice_ok(point, version, verdict, day),
         Cause::BadField,
     );
-    let k3 = or_if(k2, day.0 < d.day.0, Cause::PastDay);
+    let k3 = or_if(k2, day.0 < f.day.0, Cause::PastDay);
     let k4 = or_if(k3, o.correction.0 < day.0, Cause::AfterCorrection);
     let k5 = or_if(k4, !is_active(here), Cause::NotActive);
     let k6 = or_if(k5, absent(held), Cause::NoVersion);
     let k7 = or_if(k6, not_check(held), Cause::NotCheckData);
-    or_if(k7, log_full(d.used, o.log, due), Cause::NoLogRow)
-}
-
-// The selections that the notice would make, and the table, by one look at the desk.
-pub fn judge_notice(
-    d: Desk,
-    l: Look,
-    point: PointNo,
-    version: Version,
-    verdict: u64,
-    day: Day,
-    n: Sizes,
-) -> Noticed
-    requires { ⌜ Looked d (point .0) (version .0) 0 0 0 l ⌝ }
-    ensures { λ r. ⌜ JudgedNotice d (point .0) (version .0) verdict (day .0) n r ⌝ }
-{
-    let found = l.survey;
-    let held = found.held;
-    let o = d.opening;
-    let clearing = o.clearing;
-    let turn = notice_turn(clearing, found, version, verdict, day);
-    let due = due_by(turn, point.0, day.0);
-    if !l.valid {
-        return Noticed {
-            verdict: Verdict::Refuse(Cause::NotOpen),
-            turn,
-            due,
-            held,
-        };
-    }
-    let decided = notice_checks(d, l, due, point, version, verdict, day, n);
-    Noticed {
-        verdict: decided,
-        turn,
-        due,
-        held,
-    }
+    or_if(k7, log_full(f.used, o.log, due), Cause::NoLogRow)
 }
 
 // The record of the version found, as the notice leaves it.
@@ -184,45 +141,30 @@ fn noticed_record(v: VersionRecord, o: Opening, verdict: u64, day: Day) -> Versi
     }
 }
 
-// After a notice on version v that is not refused: no record's row of values changes, so the book follows by the rows before it.
+// After a notice on the version found that is not refused. No record's row of values changes.
 fn notice_granted(
     d: Desk,
     here: PointState,
-    j: Noticed,
-    v: VersionRecord,
-    rows: ValueRows,
+    held: Held,
+    turn: Turn,
+    due: Due,
     verdict: u64,
     day: Day,
     values: &[u64],
     book: &mut [u64],
     log: &mut [u64],
 ) -> Effect
-    requires { ⌜ (stateOk here ≡ true) × NoticeFits d (now values) (now book) (now log) j ⌝ }
-    requires { ⌜ RecordOf (versionsIn d) (j .held) v × RowsFor (versionsIn d) (j .turn) rows ⌝ }
-    ensures { λ r. ⌜ NoticeEffect d here rows verdict (day .0) j (now (values .entry)) (now (book .entry)) (now (log .entry)) r (now (book .exit)) (now (log .exit)) ⌝ }
+    requires { ⌜ NoticeFits d here held (now values) (now book) (now log) turn due ⌝ }
+    ensures { λ r. ⌜ NoticeEffect d here held turn due verdict (day .0) (now (values .entry)) (now (book .entry)) (now (log .entry)) r (now (book .exit)) (now (log .exit)) ⌝ }
 {
-    let held = j.held;
-    let turn = j.turn;
-    let due = j.due;
-    let Held::Has { at, status: _ } = held else {
-        return unchanged(d);
+    let f = d.frame;
+    let Held::Has { at, record } = held else {
+        return unchanged(f);
     };
-    let o = d.opening;
-    let groups = d.groups;
-    let used = follow(
-        groups,
-        here,
-        turn,
-        due,
-        rows,
-        o.quarters as usize,
-        d.used,
-        values,
-        book,
-        log,
-    );
-    let after = noticed_record(v, o, verdict, day);
-    put_version(d, at, after, d.count, used, day)
+    let opening = f.opening;
+    let used = follow(f, here, turn, due, values, book, log);
+    let after = noticed_record(record, opening, verdict, day);
+    put_version(f, at, after, f.count, used, day)
 }
 
 // By one look at the desk.
@@ -237,25 +179,28 @@ pub fn decide_notice(
     book: &mut [u64],
     log: &mut [u64],
 ) -> Decided
-    requires { ⌜ Looked d (point .0) (version .0) 0 0 0 l ⌝ }
-    ensures { λ r. ⌜ Fits d (r .effect) × Stepped (step d (lent (notices (point .0) (version .0) verdict (day .0)) (storesOf (now (values .entry)) (now (book .entry)) (now (log .entry))))) (r .answer) (changedBy d (r .effect)) (now (values .entry)) (now (book .exit)) (now (log .exit)) ⌝ }
+    requires { ⌜ Looked d (askingFor (point .0) (version .0) 0 0 0) l ⌝ }
+    ensures { λ r. ⌜ Fits d (r .effect) × Stepped d (notices (point .0) (version .0) verdict (day .0)) (now (values .entry)) (now (book .entry)) (now (log .entry)) (r .answer) (changedBy d (r .effect)) (now (values .entry)) (now (book .exit)) (now (log .exit)) ⌝ }
 {
+    let f = d.frame;
+    if !l.valid {
+        return refuse(f, Cause::NotOpen);
+    }
     let n = Sizes {
         values: values.len() as u64,
         book: book.len() as u64,
         log: log.len() as u64,
     };
-    let j = judge_notice(d, l, point, version, verdict, day, n);
-    let decided = j.verdict;
+    let found = l.survey;
+    let turn = notice_turn(f, found, verdict, day);
+    let due = due_by(turn, point, day);
+    let decided = notice_checks(d, l, due, point, version, verdict, day, n);
     match decided {
-        Verdict::Refuse(cause) => refuse(d, cause),
+        Verdict::Refuse(cause) => refuse(f, cause),
         Verdict::Fine => {
             let here = l.here;
-            let s = l.survey;
-            let v = s.found;
-            let turn = j.turn;
-            let rows = rows_after(turn, v.row.0 as u64, s.row1, s.row2);
-            accept(notice_granted(d, here, j, v, rows, verdict, day, values, book, log))
+            let held = found.held;
+            accept(notice_granted(d, here, held, turn, due, verdict, day, values, book, log))
         }
     }
 }
@@ -270,9 +215,9 @@ pub fn notice(
     book: &mut [u64],
     log: &mut [u64],
 ) -> Outcome
-    ensures { λ r. ⌜ Stepped (step d (lent (notices (point .0) (version .0) verdict (day .0)) (storesOf (now (values .entry)) (now (book .entry)) (now (log .entry))))) (r .answer) (r .desk) (now (values .entry)) (now (book .exit)) (now (log .exit)) ⌝ }
+    ensures { λ r. ⌜ Stepped d (notices (point .0) (version .0) verdict (day .0)) (now (values .entry)) (now (book .entry)) (now (log .entry)) (r .answer) (r .desk) (now (values .entry)) (now (book .exit)) (now (log .exit)) ⌝ }
 {
-    let l = look(d, point, version, 0, 0, 0);
+    let l = look(d, asking(point, version));
     let r = decide_notice(d, l, point, version, verdict, day, values, book, log);
     outcome(d, r)
 }

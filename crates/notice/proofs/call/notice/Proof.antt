@@ -3,11 +3,14 @@ use borrow.Author.Needs.{needs}
 use Rattle.notice.proofs.call.notice.Statement.{statement}
 use Rattle.notice.proofs.call.notice.Tie as tie
 
+asking-requires : tie.Need-asking-requires
+asking-requires c κs = search needs
+
 look-requires : tie.Need-look-requires
 look-requires c κs = search needs
 
 decide-notice-requires : tie.Need-decide-notice-requires
-decide-notice-requires c κs = search needs
+decide-notice-requires c κs = rw (c .before .before .before .asking .ensures) at (c .before .before .look .ensures)
 
 outcome-requires : tie.Need-outcome-requires
 outcome-requires c κs = search needs
@@ -19,13 +22,13 @@ same-length-2 : tie.Need-same-length-2
 same-length-2 c = search needs
 
 returns : tie.Need-returns
-returns c =
-    rw (c .outcome .ensures .0, c .outcome .ensures .1) (c .before .before .before .before .before .decide-notice .ensures .1)
+returns c = rw (c .outcome .ensures .0, c .outcome .ensures .1) (c .before .before .before .before .before .decide-notice .ensures .1)
 
 pub notice-spec : {M : Type 1} → statement M
 notice-spec =
     tie.close
     (tie.spec
+    asking-requires
     look-requires
     decide-notice-requires
     outcome-requires

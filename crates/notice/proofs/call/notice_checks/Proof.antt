@@ -53,7 +53,7 @@ or-if-requires-8 : tie.Need-or-if-requires-8
 or-if-requires-8 c κs = search needs
 
 log-full-requires : tie.Need-log-full-requires
-log-full-requires c κs = c .before .before .before .before .before .before .before .before .before .before .before .before .before .before .before .before .before .before .before .before .pre .0 .used
+log-full-requires c κs = c .before .before .before .before .before .before .before .before .before .before .before .before .before .before .before .before .before .before .before .before .before .pre .0 .used
 
 or-if-requires-9 : tie.Need-or-if-requires-9
 or-if-requires-9 c κs = search needs
@@ -61,7 +61,7 @@ or-if-requires-9 c κs = search needs
 returns : tie.Need-returns
 unfolding firstOf fold
 returns c =
-    let s = c .before .before .before .before .before .before .before .before .before .before .before .before .before .before .before .before .before .before .before .before .before .before in
+    let s = c .before .before .before .before .before .before .before .before .before .before .before .before .before .before .before .before .before .before .before .before .before .before .before in
     let a = s .args in
     let f = s .pre .1 .0 .survey in
     let here = s .pre .1 .0 .here in
@@ -73,7 +73,7 @@ returns c =
     let k5 = checked NotActive (c .before .before .before .before .before .before .or-if6 .ensures) k4 (ap not (c .before .before .before .before .before .before .before .is-active .ensures ∙ ap isActive here)) in
     let k6 = checked NoVersion (c .before .before .before .before .or-if7 .ensures) k5 (c .before .before .before .before .before .absent .ensures ∙ ap isAbsent (f .held)) in
     let k7 = checked NotCheckData (c .before .before .or-if8 .ensures) k6 (c .before .before .before .not-check .ensures ∙ ap notCheck (f .held)) in
-    checked NoLogRow (c .or-if9 .ensures) k7 (c .before .log-full .ensures ∙ ap (logFull (a .d .used) (a .d .opening .log)) (s .pre .1 .1))
+    checked NoLogRow (c .or-if9 .ensures) k7 (c .before .log-full .ensures ∙ ap (logFull (a .d .frame .used) (a .d .frame .opening .log)) (s .pre .1 .1))
 
 pub notice-checks-spec : {M : Type 1} → statement M
 notice-checks-spec =

@@ -1,5 +1,4 @@
 -- `notice_turn` meets its contract. Assumes nothing.
-use mathlib.Core.Path.{refl, _∙_}
 use borrow.Author.Needs.{needs}
 use Rattle.notice.proofs.call.notice_turn.Statement.{statement}
 use Rattle.notice.proofs.call.notice_turn.Tie as tie
@@ -14,14 +13,13 @@ own-after-requires-2 : tie.Need-own-after-requires-2
 own-after-requires-2 c κs = search needs
 
 returns : tie.Need-returns
-returns c =
-    let s = c .before .before .confirmed-status .ensures in
-    record {
-      old1 = refl;
-      new1 = c .before .own-after .ensures ∙ rw s;
-      old2 = refl;
-      new2 = c .own-after2 .ensures ∙ rw s;
-    }
+returns c = rw (c .own-after2 .ensures, c .before .own-after .ensures, c .before .before .confirmed-status .ensures)
 
 pub notice-turn-spec : {M : Type 1} → statement M
-notice-turn-spec = tie.close (tie.spec confirmed-status-requires own-after-requires own-after-requires-2 returns)
+notice-turn-spec =
+    tie.close
+    (tie.spec
+    confirmed-status-requires
+    own-after-requires
+    own-after-requires-2
+    returns)

@@ -1,4 +1,4 @@
--- `own_after` meets its contract, case by case. Assumes nothing.
+-- `own_after` meets its contract. Assumes nothing.
 use borrow.Author.Needs.{needs}
 use Rattle.notice.proofs.call.own_after.Statement.{statement}
 use Rattle.notice.proofs.call.own_after.Tie as tie
@@ -15,6 +15,12 @@ is-check-requires c κs = search needs
 counts-in-requires : tie.Need-counts-in-requires
 counts-in-requires c κs = search needs
 
+restated-requires : tie.Need-restated-requires
+restated-requires c κs = search needs
+
+row-at-requires : tie.Need-row-at-requires
+row-at-requires c κs = search needs
+
 raised-earlier-requires : tie.Need-raised-earlier-requires
 raised-earlier-requires c κs = search needs
 
@@ -23,13 +29,13 @@ returns c = search needs
 
 returns-2 : tie.Need-returns-2
 returns-2 c =
-    let s = c .before .before in
-    rw (s .before .before .before .held .given .1, ← s .before .is-check .ensures, ← s .counts-in .ensures, c .before .if1 .taken) (c .raised-earlier .ensures)
+    let s = c .before .before .before .before in
+    rw (c .before .before .before .before .before .before .before .held .given .1, ← s .before .is-check .ensures, ← s .counts-in .ensures, c .before .before .before .if1 .taken, c .raised-earlier .ensures, c .before .row-at .ensures, c .before .before .restated .ensures)
 
 returns-3 : tie.Need-returns-3
 returns-3 c =
     let s = c .before in
-    rw (s .before .before .before .held .given .1, ← s .before .is-check .ensures, ← s .counts-in .ensures, c .if1 .left)
+    rw (c .before .before .before .before .held .given .1, ← s .before .is-check .ensures, ← s .counts-in .ensures, c .if1 .left)
 
 pub own-after-spec : {M : Type 1} → statement M
 own-after-spec =
@@ -39,6 +45,8 @@ own-after-spec =
     enum-known-held
     is-check-requires
     counts-in-requires
+    restated-requires
+    row-at-requires
     raised-earlier-requires
     returns
     returns-2

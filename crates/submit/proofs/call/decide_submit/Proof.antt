@@ -50,10 +50,12 @@ returns c =
     let p = c .before .before .before .before .before .before .before .before in
     let a = p .args in
     let call = submits (a .point .0) (a .version .0) (a .day .0) (map signed (a .series .now)) in
-    let u = unmoved (a .d) (c .refuse .ensures) in
-    (u .0, λ s.
-    let stores = storing s (a .values .now) (a .book .now) (a .log .now) in
-    all-refused (a .d) call stores refl (unfit (a .d) (told (lent call stores)) refl (sym (p .pre .valid) ∙ not-true _ (c .before .if1 .taken))) (u .1))
+    let u = unmoved (a .d) (c .refuse .ensures) in (
+      u .0,
+      λ s.
+          let stores = storing s (a .values .now) (a .book .now) (a .log .now) in
+          all-refused (a .d) call stores refl (unfit (a .d) (told (lent call stores)) refl (sym (p .pre .valid) ∙ not-true _ (c .before .if1 .taken))) (u .1),
+    )
 
 submit-turn-requires : tie.Need-submit-turn-requires
 submit-turn-requires c κs = sound (c .before .before .before .before .before .before .before .before .args .d) (valid (c .before)) .count
@@ -92,10 +94,12 @@ returns-2 : tie.Need-returns-2
 returns-2 c =
     let a = c .before .before .before .before .before .before .before .before .before .before .before .before .before .before .before .args in
     let call = submits (a .point .0) (a .version .0) (a .day .0) (map signed (a .series .now)) in
-    let u = unmoved (a .d) (c .refuse2 .ensures) in
-    (u .0, λ s.
-    let stores = storing s (a .values .now) (a .book .now) (a .log .now) in
-    all-refused (a .d) call stores (c .before .before .before .before .submit-checks .ensures ∙ sym (fit (a .d) (told (lent call stores)) refl (valid (c .before .before .before .before .before .before .before .before)))) (c .before .before .verdict .given .1) (u .1))
+    let u = unmoved (a .d) (c .refuse2 .ensures) in (
+      u .0,
+      λ s.
+          let stores = storing s (a .values .now) (a .book .now) (a .log .now) in
+          all-refused (a .d) call stores (c .before .before .before .before .submit-checks .ensures ∙ sym (fit (a .d) (told (lent call stores)) refl (valid (c .before .before .before .before .before .before .before .before)))) (c .before .before .verdict .given .1) (u .1),
+    )
 
 same-length : tie.Need-same-length
 same-length c = search needs
@@ -111,10 +115,12 @@ returns-3 c =
     let a = c .before .before .before .before .before .before .before .before .before .before .before .before .before .before .before .before .before .before .before .before .before .before .before .before .before .before .args in
     let call = submits (a .point .0) (a .version .0) (a .day .0) (map signed (a .series .now)) in
     let g = rw (c .before .before .before .before .before .before .before .before .before .before .before .new-version .ensures) at (c .before .before .before .before .before .before .before .submit-granted .ensures) in
-    rw (c .accept .ensures .0, c .accept .ensures .1)
-    (g .0, λ s.
-    let stores = storing s (a .values .now) (a .book .now) (a .log .now) in
-    all-granted (a .d) call stores (c .before .before .before .before .before .before .before .before .before .before .before .before .before .before .before .submit-checks .ensures ∙ sym (fit (a .d) (told (lent call stores)) refl (valid (c .before .before .before .before .before .before .before .before .before .before .before .before .before .before .before .before .before .before .before)))) (c .before .before .before .before .before .before .before .before .before .before .before .before .before .enum-told .given .1) (g .1))
+    rw (c .accept .ensures .0, c .accept .ensures .1) (
+      g .0,
+      λ s.
+          let stores = storing s (a .values .now) (a .book .now) (a .log .now) in
+          all-granted (a .d) call stores (c .before .before .before .before .before .before .before .before .before .before .before .before .before .before .before .submit-checks .ensures ∙ sym (fit (a .d) (told (lent call stores)) refl (valid (c .before .before .before .before .before .before .before .before .before .before .before .before .before .before .before .before .before .before .before)))) (c .before .before .before .before .before .before .before .before .before .before .before .before .before .enum-told .given .1) (g .1),
+    )
 
 pub decide-submit-spec : {M : Type 1} → statement M
 decide-submit-spec =
