@@ -7,7 +7,7 @@ use native.Mathlib.Nat.{add-sub-cancel-left}
 use native.Mathlib.Omega.{arith}
 use borrow.Author.Tests.{not-false}
 use lib.ListN.{length, take, drop}
-use Rattle.quantity.specs.Limits.{runOk, groupOk}
+use Rattle.quantity.specs.Limits.{groups, runs, runRows, bookRows, runOk, groupOk}
 use Rattle.quantity.proofs.Tests.{and-left, and-right, within-low, within-high}
 use Rattle.book.specs.Place.{groupRow, rowStart}
 use Rattle.book.specs.Row.{part}
@@ -34,10 +34,10 @@ row-part book q run g start e = rw (add-sub-cancel-left, e)
 pub record Showable (d : Desk) (run group size : ℕ) : Type 0 where
   pub sound : Sound d
   pub low : 1 ≤ run
-  pub high : run ≤ 2
+  pub high : run ≤ runs
   pub some : 1 ≤ group
-  pub most : group ≤ 64
-  pub whole : size ≡ 162 * d .opening .quarters
+  pub most : group ≤ groups
+  pub whole : size ≡ bookRows * d .frame .opening .quarters
 
 pub showable : (d : Desk) (run group : ℕ) (n : Lengths) → refusalBy d (telling n (shows run group)) ≡ Fine → Showable d run group (n .book)
 showable d run group n e =
@@ -48,16 +48,16 @@ showable d run group n e =
     let g = and-right (runOk run) (groupOk group) f in
     record {
       sound = s;
-      low = within-low 1 2 run r;
-      high = within-high 1 2 run r;
-      some = within-low 1 64 group g;
-      most = within-high 1 64 group g;
-      whole = book-same n (d .opening) (h .1 .1 .0) ∙ s .book;
+      low = within-low 1 runs run r;
+      high = within-high 1 runs run r;
+      some = within-low 1 groups group g;
+      most = within-high 1 groups group g;
+      whole = book-same n (d .frame .opening) (h .1 .1 .0) ∙ s .book;
     }
 
 -- a row of its run ends within the book
-pub row-ends : {d : Desk} {run group size k start : ℕ} → Showable d run group size → start ≡ rowStart (d .opening .quarters) run k → k < 81 → start + d .opening .quarters ≤ size
-row-ends {d} {run} {group} {size} {k} {start} s e h = omega (arith, e, row-within (d .opening .quarters) run k (s .low) (s .high) h, s .whole)
+pub row-ends : {d : Desk} {run group size k start : ℕ} → Showable d run group size → start ≡ rowStart (d .frame .opening .quarters) run k → k < runRows → start + d .frame .opening .quarters ≤ size
+row-ends {d} {run} {group} {size} {k} {start} s e h = omega (arith, e, row-within (d .frame .opening .quarters) run k (s .low) (s .high) h, s .whole)
 
 -- no cause has the number 0
 some-number : (x : Cause) → 1 ≤ causeNumber x
@@ -95,7 +95,7 @@ empty-exactly d run group s = go (refusalBy d (telling (lengthsOf s) (shows run 
     go : (v : Verdict) → v ≡ refusalBy d (telling (lengthsOf s) (shows run group)) → (o .part ≡ []) ↔ (answerNumber (o .answer) ≡ 0 → ⊥)
     go Fine e =
         let k = showable d run group (lengthsOf s) (sym e) in
-        let q = d .opening .quarters in
+        let q = d .frame .opening .quarters in
         let b = part (s .book) (rowStart q run (groupRow group)) q in
         let l : length b ≡ q = length-part (s .book) (rowStart q run (groupRow group)) q (row-ends k refl (omega (arith, k .most))) in
         let m : 1 ≤ q = k .sound .quarters in

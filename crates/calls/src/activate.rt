@@ -12,6 +12,7 @@ use checks::points::is_active;
 use checks::rules::or_if;
 use effect::changes::active_record;
 use effect::changes::put_point;
+use model::Asks;
 use model::Cause;
 use model::Verdict;
 use quantity::Day;
@@ -22,10 +23,11 @@ use quantity::limits::point_ok;
 use state::Desk;
 ghost use mathlib.Core.Path.{_≡_};
 ghost use Rattle.effect.specs.Effect.{changedBy, Fits};
-ghost use Rattle.model.specs.Call.{Stores, Lengths, activates, telling};
-ghost use Rattle.model.specs.Step.{refusalBy, step};
+ghost use Rattle.model.specs.Call.{Lengths, activates, telling};
+ghost use Rattle.model.specs.Causes.{asking};
+ghost use Rattle.model.specs.Step.{refusalBy};
 ghost use Rattle.checks.specs.Look.{Looked};
-ghost use Rattle.checks.specs.Stepped.{Answered, lent};
+ghost use Rattle.checks.specs.Stepped.{Answered};
 
 fn activate_verdict(
     d: Desk,
@@ -36,15 +38,16 @@ fn activate_verdict(
     partner: u64,
     day: Day,
 ) -> Verdict
-    requires { ⌜ Looked d (point .0) 0 kind area partner l ⌝ }
+    requires { ⌜ Looked d (asking (point .0) 0 kind area partner) l ⌝ }
     ensures { λ r. ⌜ ((n : Lengths) → r ≡ refusalBy d (telling n (activates (point .0) kind area partner (day .0)))) ⌝ }
 {
-    let opening = d.opening;
+    let frame = d.frame;
+    let opening = frame.opening;
     let here = l.here;
     let fits = point_ok(point) & (day_ok(day) & series_ok(kind, area, partner));
     let v0 = at_work(l.valid, opening);
     let v1 = or_if(v0, !fits, Cause::BadField);
-    let v2 = or_if(v1, day.0 < d.day.0, Cause::PastDay);
+    let v2 = or_if(v1, day.0 < frame.day.0, Cause::PastDay);
     let v3 = or_if(v2, opening.correction.0 < day.0, Cause::AfterCorrection);
     let v4 = or_if(v3, is_active(here), Cause::PointActive);
     or_if(v4, l.taken, Cause::SameSeries)
@@ -60,23 +63,31 @@ pub fn decide_activate(
     partner: u64,
     day: Day,
 ) -> Decided
-    requires { ⌜ Looked d (point .0) 0 kind area partner l ⌝ }
-    ensures { λ r. ⌜ Fits d (r .effect) × ((s : Stores) → Answered (step d (lent (activates (point .0) kind area partner (day .0)) s)) (r .answer) (changedBy d (r .effect))) ⌝ }
+    requires { ⌜ Looked d (asking (point .0) 0 kind area partner) l ⌝ }
+    ensures { λ r. ⌜ Fits d (r .effect) × Answered d (activates (point .0) kind area partner (day .0)) (r .answer) (changedBy d (r .effect)) ⌝ }
 {
+    let frame = d.frame;
     let v = activate_verdict(d, l, point, kind, area, partner, day);
     match v {
-        Verdict::Refuse(c) => refuse(d, c),
+        Verdict::Refuse(c) => refuse(frame, c),
         Verdict::Fine => {
             let p = active_record(kind, area, partner, day);
-            accept(put_point(d, point, p, day))
+            accept(put_point(frame, point, p, day))
         }
     }
 }
 
 pub fn activate(d: Desk, point: PointNo, kind: u64, area: u64, partner: u64, day: Day) -> Outcome
-    ensures { λ r. ⌜ ((s : Stores) → Answered (step d (lent (activates (point .0) kind area partner (day .0)) s)) (r .answer) (r .desk)) ⌝ }
+    ensures { λ r. ⌜ Answered d (activates (point .0) kind area partner (day .0)) (r .answer) (r .desk) ⌝ }
 {
-    let l = look(d, point, Version(0), kind, area, partner);
+    let asks = Asks {
+        point,
+        version: Version(0),
+        kind,
+        area,
+        partner,
+    };
+    let l = look(d, asks);
     let r = decide_activate(d, l, point, kind, area, partner, day);
     outcome(d, r)
 }

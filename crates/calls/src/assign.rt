@@ -17,30 +17,29 @@ use quantity::limits::day_ok;
 use quantity::limits::delta_ok;
 use quantity::limits::group_ok;
 use state::Desk;
-ghost use Prim.Native.Nat.{ℕ};
 ghost use mathlib.Core.Path.{_≡_};
 ghost use mathlib.Core.Bool.{true};
-ghost use mathlib.Core.List.{List};
 ghost use lib.ListN.{length};
 ghost use Rattle.quantity.specs.Limits.{deltaOk, groupOk};
 ghost use Rattle.effect.specs.Effect.{changedBy, Fits};
 ghost use Rattle.state.specs.Valid.{Sound, validDesk};
-ghost use Rattle.model.specs.Call.{assigns, telling};
-ghost use Rattle.model.specs.Step.{refusalBy, granting, step};
+ghost use Rattle.model.specs.Call.{Stores, Lengths, assigns, telling};
+ghost use Rattle.model.specs.Step.{refusalBy, granting, withBook};
 ghost use Rattle.model.specs.declared.Answer.the-variants.{Accepted};
-ghost use Rattle.checks.specs.Stepped.{BookStepped, storesOf, lent};
-ghost use Rattle.checks.specs.Lent.{sizes};
+ghost use Rattle.checks.specs.Stepped.{IsBookStep, BookStepped};
+ghost use Rattle.checks.specs.Lent.{withBookLength};
 
 pub fn assign_verdict(d: Desk, fit: bool, size: u64, area: u64, group: u64, day: Day) -> Verdict
     requires { ⌜ fit ≡ validDesk d ⌝ }
-    ensures { λ r. ⌜ ((values log : ℕ) → r ≡ refusalBy d (telling (sizes values size log) (assigns area group (day .0)))) ⌝ }
+    ensures { λ r. ⌜ ((n : Lengths) → r ≡ refusalBy d (telling (withBookLength n size) (assigns area group (day .0)))) ⌝ }
 {
-    let opening = d.opening;
+    let frame = d.frame;
+    let opening = frame.opening;
     let v0 = at_work(fit, opening);
     let v1 = or_if(v0, size != opening.book, Cause::WrongLength);
     let fits = delta_ok(area) & (group_ok(group) & day_ok(day));
     let v2 = or_if(v1, !fits, Cause::BadField);
-    let v3 = or_if(v2, day.0 < d.day.0, Cause::PastDay);
+    let v3 = or_if(v2, day.0 < frame.day.0, Cause::PastDay);
     or_if(v3, opening.clearing.0 < day.0, Cause::AfterClearing)
 }
 
@@ -48,15 +47,16 @@ pub fn assign_verdict(d: Desk, fit: bool, size: u64, area: u64, group: u64, day:
 fn assigned(d: Desk, area: u64, group: u64, day: Day, book: &mut [u64]) -> Effect
     requires { ⌜ Sound d ⌝ }
     requires { ⌜ (deltaOk area ≡ true) × (groupOk group ≡ true) ⌝ }
-    requires { ⌜ length (now book) ≡ d .opening .book ⌝ }
-    ensures { λ r. ⌜ Fits d r × ((values log : List ℕ) → BookStepped (granting d (storesOf values (now (book .entry)) log) (assigns area group (day .0))) Accepted (changedBy d r) (now (book .exit))) ⌝ }
+    requires { ⌜ length (now book) ≡ d .frame .opening .book ⌝ }
+    ensures { λ r. ⌜ Fits d r × ((s : Stores) → IsBookStep (granting d (withBook s (now (book .entry))) (assigns area group (day .0))) Accepted (changedBy d r) (now (book .exit))) ⌝ }
 {
-    let opening = d.opening;
-    let groups = d.groups;
+    let frame = d.frame;
+    let opening = frame.opening;
+    let groups = frame.groups;
     let i = area as usize;
     let old = groups[i];
     move_delta(area, old, group, opening.quarters as usize, book);
-    put_group(d, area, group, day)
+    put_group(frame, area, group, day)
 }
 
 // What is decided, where it is known whether the desk is within its limits.
@@ -69,17 +69,18 @@ pub fn decide_assign(
     book: &mut [u64],
 ) -> Decided
     requires { ⌜ fit ≡ validDesk d ⌝ }
-    ensures { λ r. ⌜ Fits d (r .effect) × ((values log : List ℕ) → BookStepped (step d (lent (assigns area group (day .0)) (storesOf values (now (book .entry)) log))) (r .answer) (changedBy d (r .effect)) (now (book .exit))) ⌝ }
+    ensures { λ r. ⌜ Fits d (r .effect) × BookStepped d (assigns area group (day .0)) (now (book .entry)) (r .answer) (changedBy d (r .effect)) (now (book .exit)) ⌝ }
 {
+    let frame = d.frame;
     let v = assign_verdict(d, fit, book.len() as u64, area, group, day);
     match v {
-        Verdict::Refuse(c) => refuse(d, c),
+        Verdict::Refuse(c) => refuse(frame, c),
         Verdict::Fine => accept(assigned(d, area, group, day, book)),
     }
 }
 
 pub fn assign(d: Desk, area: u64, group: u64, day: Day, book: &mut [u64]) -> Outcome
-    ensures { λ r. ⌜ ((values log : List ℕ) → BookStepped (step d (lent (assigns area group (day .0)) (storesOf values (now (book .entry)) log))) (r .answer) (r .desk) (now (book .exit))) ⌝ }
+    ensures { λ r. ⌜ BookStepped d (assigns area group (day .0)) (now (book .entry)) (r .answer) (r .desk) (now (book .exit)) ⌝ }
 {
     let r = decide_assign(d, valid(d), area, group, day, book);
     outcome(d, r)

@@ -6,6 +6,7 @@ use checks::decisions::accept;
 use checks::decisions::at_work;
 use checks::decisions::outcome;
 use checks::decisions::refuse;
+use checks::looks::asking;
 use checks::looks::look;
 use checks::points::is_active;
 use checks::rules::or_if;
@@ -23,22 +24,24 @@ use state::PointState;
 use state::selections::is_selected;
 ghost use mathlib.Core.Path.{_≡_};
 ghost use Rattle.effect.specs.Effect.{changedBy, Fits};
-ghost use Rattle.model.specs.Call.{Stores, Lengths, deactivates, telling};
-ghost use Rattle.model.specs.Step.{refusalBy, step};
+ghost use Rattle.model.specs.Call.{Lengths, deactivates, telling};
+ghost use Rattle.model.specs.Causes.{asking as askingFor};
+ghost use Rattle.model.specs.Step.{refusalBy};
 ghost use Rattle.checks.specs.Look.{Looked};
-ghost use Rattle.checks.specs.Stepped.{Answered, lent};
+ghost use Rattle.checks.specs.Stepped.{Answered};
 
 fn deactivate_verdict(d: Desk, l: Look, point: PointNo, day: Day) -> Verdict
-    requires { ⌜ Looked d (point .0) 0 0 0 0 l ⌝ }
+    requires { ⌜ Looked d (askingFor (point .0) 0 0 0 0) l ⌝ }
     ensures { λ r. ⌜ ((n : Lengths) → r ≡ refusalBy d (telling n (deactivates (point .0) (day .0)))) ⌝ }
 {
-    let opening = d.opening;
+    let frame = d.frame;
+    let opening = frame.opening;
     let here = l.here;
     let survey = l.survey;
     let highest = survey.highest;
     let v0 = at_work(l.valid, opening);
     let v1 = or_if(v0, !(point_ok(point) & day_ok(day)), Cause::BadField);
-    let v2 = or_if(v1, day.0 < d.day.0, Cause::PastDay);
+    let v2 = or_if(v1, day.0 < frame.day.0, Cause::PastDay);
     let v3 = or_if(v2, opening.correction.0 < day.0, Cause::AfterCorrection);
     let v4 = or_if(v3, !is_active(here), Cause::NotActive);
     or_if(v4, is_selected(highest), Cause::HasVersion)
@@ -46,25 +49,26 @@ fn deactivate_verdict(d: Desk, l: Look, point: PointNo, day: Day) -> Verdict
 
 // What is decided, by one look at the desk.
 pub fn decide_deactivate(d: Desk, l: Look, point: PointNo, day: Day) -> Decided
-    requires { ⌜ Looked d (point .0) 0 0 0 0 l ⌝ }
-    ensures { λ r. ⌜ Fits d (r .effect) × ((s : Stores) → Answered (step d (lent (deactivates (point .0) (day .0)) s)) (r .answer) (changedBy d (r .effect))) ⌝ }
+    requires { ⌜ Looked d (askingFor (point .0) 0 0 0 0) l ⌝ }
+    ensures { λ r. ⌜ Fits d (r .effect) × Answered d (deactivates (point .0) (day .0)) (r .answer) (changedBy d (r .effect)) ⌝ }
 {
+    let frame = d.frame;
     let v = deactivate_verdict(d, l, point, day);
     match v {
-        Verdict::Refuse(c) => refuse(d, c),
+        Verdict::Refuse(c) => refuse(frame, c),
         Verdict::Fine => {
             let free = PointRecord {
                 state: PointState::Free,
             };
-            accept(put_point(d, point, free, day))
+            accept(put_point(frame, point, free, day))
         }
     }
 }
 
 pub fn deactivate(d: Desk, point: PointNo, day: Day) -> Outcome
-    ensures { λ r. ⌜ ((s : Stores) → Answered (step d (lent (deactivates (point .0) (day .0)) s)) (r .answer) (r .desk)) ⌝ }
+    ensures { λ r. ⌜ Answered d (deactivates (point .0) (day .0)) (r .answer) (r .desk) ⌝ }
 {
-    let l = look(d, point, Version(0), 0, 0, 0);
+    let l = look(d, asking(point, Version(0)));
     let r = decide_deactivate(d, l, point, day);
     outcome(d, r)
 }

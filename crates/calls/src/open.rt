@@ -12,21 +12,23 @@ use effect::changes::open_desk;
 use model::Cause;
 use model::Verdict;
 use quantity::Day;
+use quantity::limits::DELTAS;
 use state::Desk;
 use state::Opening;
 ghost use mathlib.Core.Path.{_≡_};
 ghost use lib.ListN.{length, replicate};
 ghost use Rattle.effect.specs.Effect.{changedBy, Fits};
 ghost use Rattle.model.specs.Call.{opens, telling};
-ghost use Rattle.model.specs.Step.{refusalBy, step};
-ghost use Rattle.checks.specs.Stepped.{Stepped, storesOf, lent};
+ghost use Rattle.model.specs.Step.{refusalBy};
+ghost use Rattle.checks.specs.Stepped.{Stepped};
 ghost use Rattle.checks.specs.Lent.{sizes};
 
 // It checks 6, then 4, and never cause 1.
-pub fn open_verdict(d: Desk, o: Opening, groups: [u64; 17]) -> Verdict
+pub fn open_verdict(d: Desk, o: Opening, groups: [u64; DELTAS as usize]) -> Verdict
     ensures { λ r. ⌜ r ≡ refusalBy d (telling (sizes (o .values) (o .book) (o .log)) (opens (o .quarters) (o .first .0) (o .clearing .0) (o .correction .0) groups)) ⌝ }
 {
-    let opening = d.opening;
+    let frame = d.frame;
+    let opening = frame.opening;
     let v = or_if(Verdict::Fine, is_open(opening), Cause::OpenAgain);
     or_if(v, !(opening_ok(o) & groups_ok(groups)), Cause::BadOpening)
 }
@@ -47,12 +49,12 @@ pub fn decide_open(
     first: Day,
     clearing: Day,
     correction: Day,
-    groups: [u64; 17],
+    groups: [u64; DELTAS as usize],
     values: &[u64],
     book: &mut [u64],
     log: &[u64],
 ) -> Decided
-    ensures { λ r. ⌜ Fits d (r .effect) × Stepped (step d (lent (opens quarters (first .0) (clearing .0) (correction .0) groups) (storesOf (now (values .entry)) (now (book .entry)) (now (log .entry))))) (r .answer) (changedBy d (r .effect)) (now (values .entry)) (now (book .exit)) (now (log .entry)) ⌝ }
+    ensures { λ r. ⌜ Fits d (r .effect) × Stepped d (opens quarters (first .0) (clearing .0) (correction .0) groups) (now (values .entry)) (now (book .entry)) (now (log .entry)) (r .answer) (changedBy d (r .effect)) (now (values .entry)) (now (book .exit)) (now (log .entry)) ⌝ }
 {
     let o = Opening {
         quarters,
@@ -63,12 +65,13 @@ pub fn decide_open(
         book: book.len() as u64,
         log: log.len() as u64,
     };
+    let frame = d.frame;
     let v = open_verdict(d, o, groups);
     match v {
-        Verdict::Refuse(c) => refuse(d, c),
+        Verdict::Refuse(c) => refuse(frame, c),
         Verdict::Fine => {
             clear(book);
-            accept(open_desk(d, o, groups))
+            accept(open_desk(o, groups))
         }
     }
 }
@@ -79,12 +82,12 @@ pub fn open(
     first: Day,
     clearing: Day,
     correction: Day,
-    groups: [u64; 17],
+    groups: [u64; DELTAS as usize],
     values: &[u64],
     book: &mut [u64],
     log: &[u64],
 ) -> Outcome
-    ensures { λ r. ⌜ Stepped (step d (lent (opens quarters (first .0) (clearing .0) (correction .0) groups) (storesOf (now (values .entry)) (now (book .entry)) (now (log .entry))))) (r .answer) (r .desk) (now (values .entry)) (now (book .exit)) (now (log .entry)) ⌝ }
+    ensures { λ r. ⌜ Stepped d (opens quarters (first .0) (clearing .0) (correction .0) groups) (now (values .entry)) (now (book .entry)) (now (log .entry)) (r .answer) (r .desk) (now (values .entry)) (now (book .exit)) (now (log .entry)) ⌝ }
 {
     let r = decide_open(
         d,

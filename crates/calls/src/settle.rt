@@ -20,10 +20,10 @@ ghost use mathlib.Core.Path.{_≡_};
 ghost use Rattle.effect.specs.Effect.{changedBy, Fits};
 ghost use Rattle.state.specs.Desk.{flagOf};
 ghost use Rattle.state.specs.Valid.{validDesk};
-ghost use Rattle.model.specs.Call.{Stores, Lengths, settles, telling};
+ghost use Rattle.model.specs.Call.{Lengths, settles, telling};
 ghost use Rattle.model.specs.Causes.{deadline};
-ghost use Rattle.model.specs.Step.{refusalBy, step};
-ghost use Rattle.checks.specs.Stepped.{Answered, lent};
+ghost use Rattle.model.specs.Step.{refusalBy};
+ghost use Rattle.checks.specs.Stepped.{Answered};
 
 // The last day before a run can be settled.
 pub fn deadline_of(opening: Opening, run: u64) -> Day
@@ -49,12 +49,13 @@ pub fn settle_verdict(d: Desk, fit: bool, run: u64, day: Day) -> Verdict
     requires { ⌜ fit ≡ validDesk d ⌝ }
     ensures { λ r. ⌜ ((n : Lengths) → r ≡ refusalBy d (telling n (settles run (day .0)))) ⌝ }
 {
-    let opening = d.opening;
-    let settled = d.settled;
+    let frame = d.frame;
+    let opening = frame.opening;
+    let settled = frame.settled;
     let last = deadline_of(opening, run);
     let v0 = at_work(fit, opening);
     let v1 = or_if(v0, !(run_ok(run) & day_ok(day)), Cause::BadField);
-    let v2 = or_if(v1, day.0 < d.day.0, Cause::PastDay);
+    let v2 = or_if(v1, day.0 < frame.day.0, Cause::PastDay);
     let v3 = or_if(v2, day.0 <= last.0, Cause::SettleTooEarly);
     let v4 = or_if(v3, flag_of(settled, run), Cause::AlreadySettled);
     or_if(v4, (run == 2) & !settled.first, Cause::FirstRunOpen)
@@ -63,17 +64,18 @@ pub fn settle_verdict(d: Desk, fit: bool, run: u64, day: Day) -> Verdict
 // What is decided, where it is known whether the desk is within its limits.
 pub fn decide_settle(d: Desk, fit: bool, run: u64, day: Day) -> Decided
     requires { ⌜ fit ≡ validDesk d ⌝ }
-    ensures { λ r. ⌜ Fits d (r .effect) × ((s : Stores) → Answered (step d (lent (settles run (day .0)) s)) (r .answer) (changedBy d (r .effect))) ⌝ }
+    ensures { λ r. ⌜ Fits d (r .effect) × Answered d (settles run (day .0)) (r .answer) (changedBy d (r .effect)) ⌝ }
 {
+    let frame = d.frame;
     let v = settle_verdict(d, fit, run, day);
     match v {
-        Verdict::Refuse(c) => refuse(d, c),
-        Verdict::Fine => accept(settle_run(d, run, day)),
+        Verdict::Refuse(c) => refuse(frame, c),
+        Verdict::Fine => accept(settle_run(frame, run, day)),
     }
 }
 
 pub fn settle(d: Desk, run: u64, day: Day) -> Outcome
-    ensures { λ r. ⌜ ((s : Stores) → Answered (step d (lent (settles run (day .0)) s)) (r .answer) (r .desk)) ⌝ }
+    ensures { λ r. ⌜ Answered d (settles run (day .0)) (r .answer) (r .desk) ⌝ }
 {
     let r = decide_settle(d, valid(d), run, day);
     outcome(d, r)

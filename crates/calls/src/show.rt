@@ -9,25 +9,24 @@ use model::Verdict;
 use quantity::limits::group_ok;
 use quantity::limits::run_ok;
 use state::Desk;
-ghost use Prim.Native.Nat.{ℕ};
 ghost use mathlib.Core.Path.{_≡_};
-ghost use mathlib.Core.List.{List};
-ghost use Rattle.model.specs.Call.{shows, telling};
-ghost use Rattle.model.specs.Step.{refusalBy, step};
-ghost use Rattle.checks.specs.Stepped.{storesOf, lent};
-ghost use Rattle.checks.specs.Lent.{sizes};
+ghost use Rattle.model.specs.Call.{Stores, Lengths, shows, telling};
+ghost use Rattle.model.specs.Step.{refusalBy, step, withBook};
+ghost use Rattle.checks.specs.Stepped.{lent};
+ghost use Rattle.checks.specs.Lent.{withBookLength};
 
 pub fn show_verdict(d: Desk, size: u64, run: u64, group: u64) -> Verdict
-    ensures { λ r. ⌜ ((values log : ℕ) → r ≡ refusalBy d (telling (sizes values size log) (shows run group))) ⌝ }
+    ensures { λ r. ⌜ ((n : Lengths) → r ≡ refusalBy d (telling (withBookLength n size) (shows run group))) ⌝ }
 {
-    let opening = d.opening;
+    let frame = d.frame;
+    let opening = frame.opening;
     let v0 = at_work(valid(d), opening);
     let v1 = or_if(v0, size != opening.book, Cause::WrongLength);
     or_if(v1, !(run_ok(run) & group_ok(group)), Cause::BadField)
 }
 
 pub fn show_number(d: Desk, run: u64, group: u64, book: &[u64]) -> Answer
-    ensures { λ r. ⌜ ((values log : List ℕ) → r ≡ step d (lent (shows run group) (storesOf values (now (book .entry)) log)) .answer) ⌝ }
+    ensures { λ r. ⌜ ((s : Stores) → r ≡ step d (lent (shows run group) (withBook s (now (book .entry)))) .answer) ⌝ }
 {
     let v = show_verdict(d, book.len() as u64, run, group);
     match v {
@@ -37,13 +36,14 @@ pub fn show_number(d: Desk, run: u64, group: u64, book: &[u64]) -> Answer
 }
 
 pub fn show_row(d: Desk, run: u64, group: u64, book: &[u64]) -> &[u64]
-    ensures { λ r. ⌜ ((values log : List ℕ) → now r ≡ step d (lent (shows run group) (storesOf values (now (book .entry)) log)) .part) ⌝ }
+    ensures { λ r. ⌜ ((s : Stores) → now r ≡ step d (lent (shows run group) (withBook s (now (book .entry)))) .part) ⌝ }
 {
     let v = show_verdict(d, book.len() as u64, run, group);
     let Verdict::Fine = v else {
         return &book[0..0];
     };
-    let opening = d.opening;
+    let frame = d.frame;
+    let opening = frame.opening;
     let q = opening.quarters as usize;
     let start = row_start(run as usize, (group - 1) as usize, q);
     &book[start..start + q]

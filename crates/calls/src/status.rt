@@ -3,6 +3,7 @@ use checks::Look;
 use checks::Outcome;
 use checks::decisions::at_work;
 use checks::looks::absent;
+use checks::looks::asking;
 use checks::looks::look;
 use checks::points::is_active;
 use checks::rules::or_if;
@@ -16,16 +17,18 @@ use quantity::limits::version_ok;
 use state::Desk;
 use state::Held;
 ghost use mathlib.Core.Path.{_≡_};
-ghost use Rattle.model.specs.Call.{Stores, Lengths, asks, telling};
-ghost use Rattle.model.specs.Step.{statusAnswer, refusalBy, step};
+ghost use Rattle.model.specs.Call.{Lengths, asks, telling};
+ghost use Rattle.model.specs.Causes.{asking as askingFor};
+ghost use Rattle.model.specs.Step.{statusAnswer, refusalBy};
 ghost use Rattle.checks.specs.Look.{Looked};
-ghost use Rattle.checks.specs.Stepped.{Answered, lent};
+ghost use Rattle.checks.specs.Stepped.{Answered};
 
 fn status_verdict(d: Desk, l: Look, point: PointNo, version: Version) -> Verdict
-    requires { ⌜ Looked d (point .0) (version .0) 0 0 0 l ⌝ }
+    requires { ⌜ Looked d (askingFor (point .0) (version .0) 0 0 0) l ⌝ }
     ensures { λ r. ⌜ ((n : Lengths) → r ≡ refusalBy d (telling n (asks (point .0) (version .0)))) ⌝ }
 {
-    let opening = d.opening;
+    let frame = d.frame;
+    let opening = frame.opening;
     let here = l.here;
     let survey = l.survey;
     let held = survey.held;
@@ -44,14 +47,17 @@ pub fn status_answer(held: Held) -> Answer
 {
     match held {
         Held::Absent => Answer::Refused(Cause::NoVersion),
-        Held::Has { at: _, status } => Answer::HasStatus(status),
+        Held::Has { at: _, record } => {
+            let status = record.status;
+            Answer::HasStatus(status)
+        }
     }
 }
 
 pub fn status(d: Desk, point: PointNo, version: Version) -> Outcome
-    ensures { λ r. ⌜ ((s : Stores) → Answered (step d (lent (asks (point .0) (version .0)) s)) (r .answer) (r .desk)) ⌝ }
+    ensures { λ r. ⌜ Answered d (asks (point .0) (version .0)) (r .answer) (r .desk) ⌝ }
 {
-    let l = look(d, point, version, 0, 0, 0);
+    let l = look(d, asking(point, version));
     let survey = l.survey;
     let held = survey.held;
     let v = status_verdict(d, l, point, version);

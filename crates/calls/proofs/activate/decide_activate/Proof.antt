@@ -1,5 +1,5 @@
 -- `decide_activate` meets its contract. Assumes nothing.
-use mathlib.Core.Path.{sym, _∙_}
+use mathlib.Core.Path.{refl, sym, _∙_}
 use borrow.Author.Tests.{not-false}
 use Rattle.quantity.specs.Limits.{pointOk, dayOk}
 use Rattle.quantity.proofs.Tests.{and-left, and-right}
@@ -23,14 +23,14 @@ enum-told c = search needs
 
 active-record-requires : tie.Need-active-record-requires
 active-record-requires c κs =
-    let a = c .before .before .before .args in
+    let a = c .before .before .before .before .args in
     let h = allowed _ _ (sym (c .before .before .activate-verdict .ensures noLengths) ∙ c .enum-told .given .1) in
     let fields = and-right (pointOk (a .point .0)) _ (not-false _ (h .1 .1 .0)) in
     (and-right (dayOk (a .day .0)) _ fields, and-left (dayOk (a .day .0)) _ fields)
 
 put-point-requires : tie.Need-put-point-requires
 put-point-requires c κs =
-    let a = c .before .before .before .before .args in
+    let a = c .before .before .before .before .before .args in
     let h = allowed _ _ (sym (c .before .before .before .activate-verdict .ensures noLengths) ∙ c .before .enum-told .given .1) in
     and-left (pointOk (a .point .0)) _ (not-false _ (h .1 .1 .0))
 
@@ -45,7 +45,7 @@ returns c =
 returns-2 : tie.Need-returns-2
 returns-2 c =
     let k = c .accept .ensures in
-    let p = c .before .put-point .ensures in (
+    let p = c .before .put-point .ensures (c .before .before .before .before .before .before .before .args .d) refl in (
       rw (k .1) (p .0),
       λ s. answer-granted _ _ s (c .before .before .before .before .before .activate-verdict .ensures (lengthsOf s)) (c .before .before .before .enum-told .given .1)
           (record { answered = k .0; held = rw (k .1) (p .1 ∙ rw (c .before .before .active-record .ensures)) }),

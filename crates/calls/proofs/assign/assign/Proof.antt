@@ -16,7 +16,7 @@ same-length : tie.Need-same-length
 same-length c = search needs
 
 returns : tie.Need-returns
-returns c values log = let o = c .outcome .ensures in rw (o .0, o .1) (c .before .before .before .decide-assign .ensures .1 values log)
+returns c s = let o = c .outcome .ensures in rw (o .0, o .1) (c .before .before .before .decide-assign .ensures .1 s)
 
 pub assign-spec : {M : Type 1} → statement M
 assign-spec =

@@ -1,11 +1,11 @@
 -- `decide_assign` meets its contract. Assumes nothing.
 use mathlib.Core.Path.{sym, _∙_}
 use borrow.Author.Tests.{not-false}
-use lib.ListN.{length}
 use Rattle.quantity.specs.Limits.{deltaOk, groupOk}
 use Rattle.quantity.proofs.Tests.{and-left, and-right}
 use Rattle.state.proofs.Bounds.{sound}
-use Rattle.checks.proofs.Deciding.{allowed, book-same, unmoved, book-refused, book-granted}
+use Rattle.model.specs.Call.{lengthsOf}
+use Rattle.checks.proofs.Deciding.{allowed, noLengths, book-same, unmoved, book-refused, book-granted}
 use borrow.Author.Needs.{needs}
 use Rattle.calls.proofs.assign.decide_assign.Statement.{statement}
 use Rattle.calls.proofs.assign.decide_assign.Tie as tie
@@ -24,8 +24,8 @@ enum-told c = search needs
 
 assigned-requires : tie.Need-assigned-requires
 assigned-requires c κs =
-    let a = c .before .before .before .before .before .args in
-    let h = allowed _ _ (sym (c .before .before .before .assign-verdict .ensures 0 0) ∙ c .before .enum-told .given .1) in
+    let a = c .before .before .before .before .before .before .args in
+    let h = allowed _ _ (sym (c .before .before .before .assign-verdict .ensures noLengths) ∙ c .before .enum-told .given .1) in
     let fields = not-false _ (h .1 .1 .1 .0) in
     (sound _ (not-false _ (h .0)), ((and-left (deltaOk (a .area)) _ fields, and-left (groupOk (a .group)) _ (and-right (deltaOk (a .area)) _ fields)), book-same _ _ (h .1 .1 .0)))
 
@@ -35,7 +35,7 @@ accept-requires c κs = search needs
 returns : tie.Need-returns
 returns c =
     let u = unmoved _ (c .refuse .ensures) in
-    (u .0, λ values log. book-refused _ _ _ (c .before .before .before .before .assign-verdict .ensures (length values) (length log)) (c .before .before .v .given .1) (u .1))
+    (u .0, λ s. book-refused _ _ _ (c .before .before .before .before .assign-verdict .ensures (lengthsOf s)) (c .before .before .v .given .1) (u .1))
 
 same-length : tie.Need-same-length
 same-length c = search needs
@@ -45,8 +45,8 @@ returns-2 c =
     let k = c .accept .ensures in
     let e = c .before .before .before .assigned .ensures in (
       rw (k .1) (e .0),
-      λ values log. book-granted _ _ _ (c .before .before .before .before .before .before .before .assign-verdict .ensures (length values) (length log)) (c .before .before .before .before .before .enum-told .given .1)
-          (rw (k .0, k .1) (e .1 values log)),
+      λ s. book-granted _ _ _ (c .before .before .before .before .before .before .before .assign-verdict .ensures (lengthsOf s)) (c .before .before .before .before .before .enum-told .given .1)
+          (rw (k .0, k .1) (e .1 s)),
     )
 
 pub decide-assign-spec : {M : Type 1} → statement M

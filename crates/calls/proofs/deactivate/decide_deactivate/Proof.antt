@@ -1,5 +1,5 @@
 -- `decide_deactivate` meets its contract. Assumes nothing.
-use mathlib.Core.Path.{sym, _∙_}
+use mathlib.Core.Path.{refl, sym, _∙_}
 use borrow.Author.Tests.{not-false}
 use Rattle.quantity.specs.Limits.{pointOk}
 use Rattle.quantity.proofs.Tests.{and-left}
@@ -23,7 +23,7 @@ enum-told c = search needs
 
 put-point-requires : tie.Need-put-point-requires
 put-point-requires c κs =
-    let a = c .before .before .before .args in
+    let a = c .before .before .before .before .args in
     let h = allowed _ _ (sym (c .before .before .deactivate-verdict .ensures noLengths) ∙ c .enum-told .given .1) in
     and-left (pointOk (a .point .0)) _ (not-false _ (h .1 .1 .0))
 
@@ -38,7 +38,7 @@ returns c =
 returns-2 : tie.Need-returns-2
 returns-2 c =
     let k = c .accept .ensures in
-    let p = c .before .put-point .ensures in (
+    let p = c .before .put-point .ensures (c .before .before .before .before .before .before .args .d) refl in (
       rw (k .1) (p .0),
       λ s. answer-granted _ _ s (c .before .before .before .before .deactivate-verdict .ensures (lengthsOf s)) (c .before .before .enum-told .given .1)
           (record { answered = k .0; held = rw (k .1) (p .1) }),

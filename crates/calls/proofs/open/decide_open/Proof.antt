@@ -32,7 +32,7 @@ accept-requires c κs = search needs
 returns : tie.Need-returns
 returns c =
     let u = unmoved _ (c .refuse .ensures) in
-    (u .0, all-refused _ _ _ (c .before .before .before .before .open-verdict .ensures) (c .before .before .v .given .1) (u .1))
+    (u .0, λ s. all-refused _ _ _ (c .before .before .before .before .open-verdict .ensures) (c .before .before .v .given .1) (u .1))
 
 same-length : tie.Need-same-length
 same-length c = search needs
@@ -40,12 +40,12 @@ same-length c = search needs
 returns-2 : tie.Need-returns-2
 returns-2 c =
     let k = c .accept .ensures in
-    let p = c .before .open-desk .ensures in
+    let p = c .before .open-desk .ensures (c .before .before .before .before .before .before .before .before .before .before .before .before .before .args .d) in
     let v = c .before .before .before .before .before .before .before .before .open-verdict .ensures in
     let e = c .before .before .before .before .before .before .enum-told .given .1 in
     let h = allowed _ _ (sym v ∙ e) in (
       rw (k .1) (p .0),
-      all-granted _ _ _ v e
+      λ s. all-granted _ _ _ v e
           (record {
             answered = k .0;
             held = rw (k .1) (p .1);

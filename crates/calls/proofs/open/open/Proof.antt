@@ -13,7 +13,7 @@ same-length : tie.Need-same-length
 same-length c = search needs
 
 returns : tie.Need-returns
-returns c = let o = c .outcome .ensures in rw (o .0, o .1) (c .before .before .before .decide-open .ensures .1)
+returns c s = let o = c .outcome .ensures in rw (o .0, o .1) (c .before .before .before .decide-open .ensures .1 s)
 
 pub open-spec : {M : Type 1} → statement M
 open-spec = tie.close (tie.spec decide-open-requires outcome-requires same-length returns)

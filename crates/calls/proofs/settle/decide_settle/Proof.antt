@@ -1,5 +1,5 @@
 -- `decide_settle` meets its contract. Assumes nothing.
-use mathlib.Core.Path.{sym, _∙_}
+use mathlib.Core.Path.{refl, sym, _∙_}
 use Rattle.model.specs.Call.{lengthsOf}
 use Rattle.checks.proofs.Deciding.{allowed, noLengths, unmoved, answer-refused, answer-granted}
 use borrow.Author.Tests.{not-false}
@@ -20,7 +20,7 @@ enum-told : tie.Need-enum-told
 enum-told c = search needs
 
 settle-run-requires : tie.Need-settle-run-requires
-settle-run-requires c κs = not-false _ (allowed _ _ (sym (c .before .before .settle-verdict .ensures noLengths) ∙ c .enum-told .given .1) .0)
+settle-run-requires c κs = search needs
 
 accept-requires : tie.Need-accept-requires
 accept-requires c κs = search needs
@@ -33,7 +33,8 @@ returns c =
 returns-2 : tie.Need-returns-2
 returns-2 c =
     let k = c .accept .ensures in
-    let e = c .before .settle-run .ensures in (
+    let h = allowed _ _ (sym (c .before .before .before .before .settle-verdict .ensures noLengths) ∙ c .before .before .enum-told .given .1) in
+    let e = c .before .settle-run .ensures (c .before .before .before .before .before .before .args .d) refl (not-false _ (h .0)) in (
       rw (k .1) (e .0),
       λ s. answer-granted _ _ s (c .before .before .before .before .settle-verdict .ensures (lengthsOf s)) (c .before .before .enum-told .given .1)
           (record { answered = k .0; held = rw (k .1) (e .1) }),

@@ -48,7 +48,7 @@ returns c n =
     (checked _ (c3 .or-if3 .ensures)
     (checked _ (c3 .before .before .before .or-if2 .ensures)
     (checked _ (c1 .or-if .ensures)
-    (begun _ (o .at-work .ensures) (o .before .before .before .before .pre))
+    (begun _ (o .at-work .ensures) (o .before .before .before .before .before .pre))
     (rw (c1 .before .before .run-ok .ensures, c1 .before .day-ok .ensures)))
     refl)
     (rw (o .before .deadline-of .ensures)))

@@ -1,6 +1,6 @@
 -- `show_number` meets its contract. Assumes nothing.
 use mathlib.Core.Path.{sym, ap}
-use lib.ListN.{length}
+use Rattle.model.specs.Call.{lengthsOf}
 use Rattle.model.specs.Step.{Outcome}
 use Rattle.checks.proofs.Deciding.{refused, granted}
 use borrow.Author.Needs.{needs}
@@ -17,10 +17,10 @@ enum-told : tie.Need-enum-told
 enum-told c = search needs
 
 returns : tie.Need-returns
-returns c values log = ap (λ (o : Outcome). o .answer) (sym (refused _ _ _ (c .before .before .before .show-verdict .ensures (length values) (length log)) (c .before .v .given .1)))
+returns c s = ap (λ (o : Outcome). o .answer) (sym (refused _ _ _ (c .before .before .before .show-verdict .ensures (lengthsOf s)) (c .before .v .given .1)))
 
 returns-2 : tie.Need-returns-2
-returns-2 c values log = ap (λ (o : Outcome). o .answer) (sym (granted _ _ _ (c .before .before .show-verdict .ensures (length values) (length log)) (c .enum-told .given .1)))
+returns-2 c s = ap (λ (o : Outcome). o .answer) (sym (granted _ _ _ (c .before .before .show-verdict .ensures (lengthsOf s)) (c .enum-told .given .1)))
 
 pub show-number-spec : {M : Type 1} → statement M
 show-number-spec =

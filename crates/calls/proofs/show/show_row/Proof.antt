@@ -1,22 +1,24 @@
 -- `show_row` meets its contract. Assumes nothing.
-use Rattle.checks.specs.Lent.{sizes}
--- `show_row` meets its contract. Assumes nothing.
 use mathlib.Core.Path.{sym, ap, _∙_}
 use Prim.Native.Nat.{_+_, _≤_}
 use native.Mathlib.Omega.{arith}
 use lib.ListN.{length}
 use Rattle.state.proofs.Bounds.{sound}
+use Rattle.model.specs.Call.{lengthsOf}
 use Rattle.model.specs.Step.{Outcome}
-use Rattle.checks.proofs.Deciding.{refused, granted}
+use Rattle.checks.specs.Lent.{withBookLength}
+use Rattle.checks.proofs.Deciding.{noLengths, refused, granted}
 use Rattle.calls.proofs.Parts.{Showable, showable, row-ends, row-part}
 use borrow.Author.Needs.{needs}
 use Rattle.calls.proofs.show.show_row.Statement.{statement}
 use Rattle.calls.proofs.show.show_row.Tie as tie
 
-known : (c : tie.After-opening) → Showable (c .before .before .before .before .before .args .d) (c .before .before .before .before .before .args .run) (c .before .before .before .before .before .args .group) (length (c .before .before .before .before .before .args .book .now))
-known c = showable _ _ _ (sizes 0 (length (c .before .before .before .before .before .args .book .now)) 0) (sym (c .before .before .before .show-verdict .ensures 0 0) ∙ c .before .enum-told .given .1)
+known : (c : tie.After-opening) → let a = c .before .before .before .before .before .before .args in Showable (a .d) (a .run) (a .group) (length (a .book .now))
+known c =
+    let size = length (c .before .before .before .before .before .before .args .book .now) in
+    showable _ _ _ (withBookLength noLengths size) (sym (c .before .before .before .before .show-verdict .ensures noLengths) ∙ c .before .before .enum-told .given .1)
 
-ends : (c : tie.After-row-start) → c .row-start .result + c .before .before .before .before .before .before .args .d .opening .quarters ≤ length (c .before .before .before .before .before .before .args .book .now)
+ends : (c : tie.After-row-start) → let a = c .before .before .before .before .before .before .before .args in c .row-start .result + a .d .frame .opening .quarters ≤ length (a .book .now)
 ends c =
     let k = known (c .before) in
     row-ends k (c .row-start .ensures) (omega (arith, k .most))
@@ -40,7 +42,7 @@ part-result-end : tie.Need-part-result-end
 part-result-end c = search needs
 
 returns : tie.Need-returns
-returns c values log = ap (λ (o : Outcome). o .part) (sym (refused _ _ _ (c .before .before .before .show-verdict .ensures (length values) (length log)) (c .before .enum-told2 .given .1)))
+returns c s = ap (λ (o : Outcome). o .part) (sym (refused _ _ _ (c .before .before .before .show-verdict .ensures (lengthsOf s)) (c .before .enum-told2 .given .1)))
 
 sub-row-start : tie.Need-sub-row-start
 sub-row-start c = omega (arith, known c .some)
@@ -66,9 +68,9 @@ part-result-end-2 : tie.Need-part-result-end-2
 part-result-end-2 c = omega (arith, ends c)
 
 returns-2 : tie.Need-returns-2
-returns-2 c values log =
+returns-2 c s =
     row-part _ _ _ _ _ (c .before .row-start .ensures)
-    ∙ ap (λ (o : Outcome). o .part) (sym (granted _ _ _ (c .before .before .before .before .before .show-verdict .ensures (length values) (length log)) (c .before .before .before .enum-told .given .1)))
+    ∙ ap (λ (o : Outcome). o .part) (sym (granted _ _ _ (c .before .before .before .before .before .before .show-verdict .ensures (lengthsOf s)) (c .before .before .before .before .enum-told .given .1)))
 
 pub show-row-spec : {M : Type 1} → statement M
 show-row-spec =

@@ -26,7 +26,7 @@ or-if-requires-2 c κs = tt
 
 returns : tie.Need-returns
 unfolding refusalBy firstOf fold
-returns c values log =
+returns c n =
     let c1 = c .before .before .before in
     let o = c1 .before .before in
     checked _ (c .or-if2 .ensures)

@@ -6,11 +6,14 @@ use borrow.Author.Needs.{needs}
 use Rattle.calls.proofs.status.status.Statement.{statement}
 use Rattle.calls.proofs.status.status.Tie as tie
 
+asking-requires : tie.Need-asking-requires
+asking-requires c κs = search needs
+
 look-requires : tie.Need-look-requires
 look-requires c κs = search needs
 
 status-verdict-requires : tie.Need-status-verdict-requires
-status-verdict-requires c κs = search needs
+status-verdict-requires c κs = rw (c .before .before .asking .ensures) at (c .before .look .ensures)
 
 enum-known-v : tie.Need-enum-known-v
 enum-known-v c = search needs
@@ -26,13 +29,15 @@ returns c s = answer-refused _ _ s (c .before .before .before .status-verdict .e
 
 returns-2 : tie.Need-returns-2
 returns-2 c s =
+    let l = rw (c .before .before .before .before .before .before .asking .ensures) at (c .before .before .before .before .before .look .ensures) in
     answer-granted _ _ s (c .before .before .before .status-verdict .ensures (lengthsOf s)) (c .before .enum-told .given .1)
-    (record { answered = rw (c .status-answer .ensures, c .before .before .before .before .before .look .ensures .survey .held); held = refl })
+    (record { answered = rw (c .status-answer .ensures, l .survey .held); held = refl })
 
 pub status-spec : {M : Type 1} → statement M
 status-spec =
     tie.close
     (tie.spec
+    asking-requires
     look-requires
     status-verdict-requires
     enum-known-v

@@ -35,7 +35,7 @@ unfolding refusalBy firstOf fold
 returns c n =
     let c1 = c .before .before .before .before in
     let o = c1 .before .before .before in
-    let k = o .before .before .before .pre in
+    let k = o .before .before .before .before .pre in
     checked _ (c .or-if3 .ensures)
     (checked _ (c .before .before .or-if2 .ensures)
     (checked _ (c1 .or-if .ensures)
