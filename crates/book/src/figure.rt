@@ -6,6 +6,20 @@ ghost use Prim.Native.Nat.{_+_, _≤_};
 ghost use lib.ListN.{length};
 ghost use Rattle.book.specs.Bytes.{bytesAt, figureOk, figureRefusal, figureIn};
 
+const FIGURE_BYTES: u64 = 8;
+
+// The bytes of a book for each quarter hour: 1,296.
+const BOOK_BYTES: u64 = FIGURE_BYTES * limits::BOOK_ROWS;
+
+// How many values a byte has.
+pub const BYTE: u64 = 256;
+
+// The refusal of a book of another length.
+pub const WRONG_LENGTH: u64 = 2;
+
+// The refusal of a number outside its range.
+pub const OUT_OF_RANGE: u64 = 3;
+
 fn wide(b: u8) -> u64
     ensures { λ r. ⌜ r ≡ b ⌝ }
 {
@@ -18,10 +32,10 @@ fn word_at(book: &[u8], at: usize) -> u64
     ensures { λ r. ⌜ r ≡ bytesAt (now (book .entry)) at ⌝ }
 {
     let mut w = 0;
-    let mut k = 8;
+    let mut k = FIGURE_BYTES as usize;
     while 0 < k {
         k -= 1;
-        w = w * 256 + wide(book[at + k]);
+        w = w * BYTE + wide(book[at + k]);
     }
     w
 }
@@ -40,12 +54,12 @@ pub fn figure_refusal(book: &[u8], quarters: u64, run: u64, group: u64, quarter:
 {
     if in_range(quarters, run, group, quarter) {
         let length = book.len() as u64;
-        if length == 8 * limits::BOOK_ROWS * quarters {
+        if length == BOOK_BYTES * quarters {
             return 0;
         }
-        return 2;
+        return WRONG_LENGTH;
     }
-    3
+    OUT_OF_RANGE
 }
 
 // The figure, and 0 where it is refused.
@@ -57,5 +71,5 @@ pub fn figure(book: &[u8], quarters: u64, run: u64, group: u64, quarter: u64) ->
     }
     let row = (run - 1) * limits::RUN_ROWS + (group - 1);
     let index = row * quarters + (quarter - 1);
-    WattHours(word_at(book, (8 * index) as usize))
+    WattHours(word_at(book, (FIGURE_BYTES * index) as usize))
 }

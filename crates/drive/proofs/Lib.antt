@@ -1,1 +1,2 @@
+pub mod GivenBack
 pub mod Places

@@ -1,4 +1,5 @@
 // A desk with one field overwritten, as no call would do it: so that cause 1 can be tried field by field.
+use book::figure::BYTE;
 use quantity::Day;
 use quantity::Version;
 use quantity::limits::DELTAS;
@@ -16,10 +17,8 @@ use state::ShortPoint;
 use state::Status;
 use state::VersionRecord;
 
-// How many numbers a byte has, and how many two bytes have.
-const BYTE: u64 = 256;
-
-const SHORT: u64 = 65536;
+// How many values two bytes have.
+const SHORT: u64 = BYTE * BYTE;
 
 // A field that the opening fixed.
 fn with_opening(d: Desk, which: u64, a: u64) -> Desk {

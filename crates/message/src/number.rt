@@ -9,6 +9,12 @@ ghost use lib.ListN.{length, drop};
 ghost use Rattle.message.specs.Number.{above, decodeIn, numbersIn};
 ghost use Rattle.message.specs.Offset.{itself, numberAt, numberOf, passedOf};
 
+// How many values a group of seven bits has; a byte from here on has its top bit set.
+pub const SEVEN_BITS: u64 = 128;
+
+// The most bytes that a number has.
+const MOST_BYTES: u64 = 9;
+
 fn wide(x: u8) -> u64
     ensures { λ r. ⌜ (r ≡ x) × (r < 256) ⌝ }
 {
@@ -21,16 +27,16 @@ fn read_more(file: &[u8], at: usize, low: u64) -> NumberRead
     ensures { λ r. ⌜ r ≡ numberOf itself (length (now (file .entry))) (above low 128 (decodeIn 8 false (drop at (now (file .entry))))) ⌝ }
 {
     let mut value = low;
-    let mut place: u64 = 128;
+    let mut place: u64 = SEVEN_BITS;
     let mut i: u64 = 1;
     let mut j = at;
-    while i < 9 {
+    while i < MOST_BYTES {
         if file.len() <= j {
             return NumberRead::Refused(FileCause::Cut);
         }
         let b = wide(file[j]);
         j += 1;
-        if b < 128 {
+        if b < SEVEN_BITS {
             if b == 0 {
                 return NumberRead::Refused(FileCause::NotShortest);
             }
@@ -39,8 +45,8 @@ fn read_more(file: &[u8], at: usize, low: u64) -> NumberRead
                 next: j,
             };
         }
-        value += place * (b % 128);
-        place *= 128;
+        value += place * (b % SEVEN_BITS);
+        place *= SEVEN_BITS;
         i += 1;
     }
     NumberRead::Refused(FileCause::NotShortest)
@@ -53,13 +59,13 @@ pub fn read_number(file: &[u8], at: usize) -> NumberRead
         return NumberRead::Refused(FileCause::Cut);
     }
     let b = wide(file[at]);
-    if b < 128 {
+    if b < SEVEN_BITS {
         return NumberRead::Number {
             value: b,
             next: at + 1,
         };
     }
-    read_more(file, at + 1, b % 128)
+    read_more(file, at + 1, b % SEVEN_BITS)
 }
 
 // The offset behind n numbers, from an offset in the file.

@@ -3,6 +3,7 @@ use message::FileCause;
 use message::call;
 use message::call::MOST_FIELDS;
 use message::energy;
+use message::number::SEVEN_BITS;
 use quantity::WattHours;
 use quantity::limits;
 ghost use mathlib.Core.Path.{_≡_};
@@ -40,8 +41,8 @@ fn number_size(n: u64) -> usize
 {
     let mut left = n;
     let mut i = 1;
-    while left >= 128 {
-        left /= 128;
+    while left >= SEVEN_BITS {
+        left /= SEVEN_BITS;
         i += 1;
     }
     i
@@ -61,9 +62,9 @@ fn put_number(output: &mut [u8], at: usize, n: u64) -> usize
 {
     let mut left = n;
     let mut j = at;
-    while left >= 128 {
-        output[j] = low_byte(128 + left % 128);
-        left /= 128;
+    while left >= SEVEN_BITS {
+        output[j] = low_byte(SEVEN_BITS + left % SEVEN_BITS);
+        left /= SEVEN_BITS;
         j += 1;
     }
     output[j] = low_byte(left);

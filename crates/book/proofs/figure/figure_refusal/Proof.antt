@@ -14,10 +14,7 @@ in-range-requires : tie.Need-in-range-requires
 in-range-requires c κs = search needs
 
 mul-if2 : tie.Need-mul-if2
-mul-if2 c = search needs
-
-mul-if2-2 : tie.Need-mul-if2-2
-mul-if2-2 c =
+mul-if2 c =
     let a = c .before .before .before .args in
     let q : a .quarters ≤ mostQuarters = few (a .quarters) (a .run) (a .group) (a .quarter) (sym (c .before .in-range .ensures) ∙ c .if1 .taken) in
     omega arith
@@ -36,4 +33,4 @@ returns-3 c = rw (sym (c .before .in-range .ensures) ∙ c .if1 .left)
 
 pub figure-refusal-spec : {M : Type 1} → statement M
 figure-refusal-spec =
-    tie.close (tie.spec in-range-requires mul-if2 mul-if2-2 returns returns-2 returns-3)
+    tie.close (tie.spec in-range-requires mul-if2 returns returns-2 returns-3)
