@@ -1,5 +1,5 @@
 -- Laws of calls: a call that a file can carry is read as it was written, and a call that is read can be carried and was written so. Assumes nothing.
-use Prim.Native.Nat.{ℕ, zero, suc, _+_, _^_, _<_, _≤_}
+use Prim.Native.Nat.{ℕ, _+_, _^_, _<_, _≤_}
 use mathlib.Core.Path.{_≡_, refl, sym, ap, _∙_}
 use mathlib.Core.Bool.{Bool, true, false, cond}
 use mathlib.Core.List.{List, [], _∷_, _++_, map, append-assoc}
@@ -10,7 +10,7 @@ use lib.IntN.{ℤ}
 use lib.ListN.{length, length-map, List·getD-eq-default}
 use Rattle.quantity.specs.Limits.{mostQuarters}
 use Rattle.quantity.specs.Lists.{all}
-use Rattle.quantity.proofs.Tests.{and-left, and-right, and-both, within-low, within-high}
+use Rattle.quantity.proofs.Tests.{and-left, and-right, and-both, within-high}
 use Rattle.message.specs.Read.{got, refused, onward}
 use Rattle.message.specs.Number.{areBytes, fitsNumber, decode, encode, numbersIn, encodeAll}
 use Rattle.message.specs.Energy.{sent, received, fitsEnergy}

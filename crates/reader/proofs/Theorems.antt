@@ -23,7 +23,6 @@ use Rattle.quantity.specs.declared.Version.{Version}
 use Rattle.reader.specs.declared.Reading.{Reading}
 use Rattle.message.specs.declared.FileCause.{FileCause}
 use Rattle.message.specs.declared.FileCause.the-variants.{Cut}
-use Rattle.reader.specs.declared.Step.{Step}
 use Rattle.reader.specs.declared.Step.the-variants.{Call, End, Refused as NoCall}
 use Rattle.message.proofs.Parsers.{next-of}
 use Rattle.message.proofs.Numbers.{decode-none}

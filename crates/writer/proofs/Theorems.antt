@@ -13,7 +13,7 @@ use Rattle.quantity.specs.Limits.{mostQuarters}
 use Rattle.message.specs.Read.{got}
 use Rattle.message.specs.Call.{Sent, Carried, mostFields, fieldsOf, isKind, parse, print, small}
 use Rattle.message.specs.File.{printAll, whole, callsIn, CarriedAll, none, one}
-use Rattle.writer.specs.Writer.{handed, notWritten, writtenIn, putIn, outputAfter}
+use Rattle.writer.specs.Writer.{handed, notWritten, writtenIn, outputAfter}
 use Rattle.writer.specs.Filed.{bytesOf, joined, Filed, none as nothing, one as next}
 use Rattle.message.specs.declared.FileCause.{FileCause}
 use Rattle.message.specs.declared.FileCause.the-variants.{BadKind, TooLarge, NoRoom}

@@ -2,7 +2,6 @@
 use borrow.Author.Needs.{needs}
 use mathlib.Core.Path.{refl, _∙_}
 use Rattle.drive.proofs.Places.{read-short, read-step}
-use borrow.Author.Needs.{needs}
 use Rattle.drive.proofs.drive_read.Statement.{statement}
 use Rattle.drive.proofs.drive_read.Tie as tie
 

@@ -3,7 +3,6 @@ use borrow.Author.Needs.{needs}
 use mathlib.Core.Path.{refl}
 use Rattle.drive.specs.Drive.{driven}
 use Rattle.drive.proofs.Places.{write-short, write-step, write-padded}
-use borrow.Author.Needs.{needs}
 use Rattle.drive.proofs.drive_write.Statement.{statement}
 use Rattle.drive.proofs.drive_write.Tie as tie
 

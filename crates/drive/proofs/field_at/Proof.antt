@@ -1,7 +1,6 @@
 -- `field_at` meets its contract. Assumes nothing.
 use borrow.Author.Needs.{needs}
 use Rattle.drive.proofs.Places.{field-none}
-use borrow.Author.Needs.{needs}
 use Rattle.drive.proofs.field_at.Statement.{statement}
 use Rattle.drive.proofs.field_at.Tie as tie
 

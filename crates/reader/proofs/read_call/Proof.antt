@@ -3,7 +3,6 @@ use borrow.Author.Needs.{needs}
 use mathlib.Core.Path.{sym, _∙_}
 use Rattle.message.proofs.Placed.{found}
 use Rattle.reader.proofs.ReaderSteps.{at-end, at-refused, at-kind}
-use borrow.Author.Needs.{needs}
 use Rattle.reader.proofs.read_call.Statement.{statement}
 use Rattle.reader.proofs.read_call.Tie as tie
 

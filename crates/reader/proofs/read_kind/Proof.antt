@@ -6,7 +6,6 @@ use lib.ListN.{length}
 use borrow.Author.Tests.{not-true, not-false}
 use Rattle.message.proofs.Calls.{fields-few}
 use Rattle.reader.proofs.ReaderSteps.{fields-to, fields-not, call-refused, kind-33, kind-fields, kind-tail, kind-ok}
-use borrow.Author.Needs.{needs}
 use Rattle.reader.proofs.read_kind.Statement.{statement}
 use Rattle.reader.proofs.read_kind.Tie as tie
 

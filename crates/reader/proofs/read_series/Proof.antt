@@ -4,7 +4,6 @@ use mathlib.Core.Path.{sym, _∙_}
 use lib.ListN.{length}
 use Rattle.message.proofs.CountSteps.{counted}
 use Rattle.reader.proofs.ReaderSteps.{all-there, series-refused, count-refused, numbers-refused, series-ok}
-use borrow.Author.Needs.{needs}
 use Rattle.reader.proofs.read_series.Statement.{statement}
 use Rattle.reader.proofs.read_series.Tie as tie
 

@@ -2,7 +2,6 @@
 use borrow.Author.Needs.{needs}
 use lib.ListN.{length}
 use Rattle.reader.proofs.ReaderSteps.{tail-series, tail-none}
-use borrow.Author.Needs.{needs}
 use Rattle.reader.proofs.read_tail.Statement.{statement}
 use Rattle.reader.proofs.read_tail.Tie as tie
 

@@ -4,7 +4,6 @@ use mathlib.Core.Path.{refl}
 use Rattle.message.proofs.Calls.{fields-few}
 use Rattle.writer.proofs.WriterSteps.{kind-fits, kind-room, fields-fit, tail-fits, fields-room, tail-room, put-whole}
 use native.Mathlib.Omega.{arith}
-use borrow.Author.Needs.{needs}
 use Rattle.writer.proofs.put_call.Statement.{statement}
 use Rattle.writer.proofs.put_call.Tie as tie
 

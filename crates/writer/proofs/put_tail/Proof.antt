@@ -2,7 +2,6 @@
 use borrow.Author.Needs.{needs}
 use Rattle.writer.proofs.WriterSteps.{put-nothing, few-words, words-fit, count-room, series-room, put-series}
 use native.Mathlib.Omega.{arith}
-use borrow.Author.Needs.{needs}
 use Rattle.writer.proofs.put_tail.Statement.{statement}
 use Rattle.writer.proofs.put_tail.Tie as tie
 

@@ -5,7 +5,6 @@ use Rattle.message.proofs.Calls.{fields-few}
 use Rattle.writer.proofs.Writing.{nine}
 use Rattle.writer.proofs.WriterSteps.{call-size, head-large, tail-large, head-few, tail-small, kind-fits}
 use native.Mathlib.Omega.{arith}
-use borrow.Author.Needs.{needs}
 use Rattle.writer.proofs.size_call.Statement.{statement}
 use Rattle.writer.proofs.size_call.Tie as tie
 

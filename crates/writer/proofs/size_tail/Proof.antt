@@ -5,7 +5,6 @@ use lib.ListN.{length}
 use Rattle.writer.proofs.Writing.{nine}
 use Rattle.writer.proofs.WriterSteps.{size-none, size-long, size-goes, size-not, series-few}
 use native.Mathlib.Omega.{arith}
-use borrow.Author.Needs.{needs}
 use Rattle.writer.proofs.size_tail.Statement.{statement}
 use Rattle.writer.proofs.size_tail.Tie as tie
 

@@ -6,7 +6,6 @@ use Rattle.quantity.proofs.Lists.{length-of}
 use Rattle.message.specs.Call.{numbersOf, small}
 use Rattle.writer.specs.Writer.{handed}
 use Rattle.writer.proofs.WriterSteps.{sized-fits, write-33, write-34, write-35, write-room, write-ok}
-use borrow.Author.Needs.{needs}
 use Rattle.writer.proofs.write_call.Statement.{statement}
 use Rattle.writer.proofs.write_call.Tie as tie
 

@@ -2,7 +2,6 @@
 use borrow.Author.Needs.{needs}
 use borrow.Author.Tests.{eq-eqb, ne-eqb}
 use Rattle.message.specs.Named.{callOf}
-use borrow.Author.Needs.{needs}
 use Rattle.message.proofs.call.call_of.Statement.{statement}
 use Rattle.message.proofs.call.call_of.Tie as tie
 

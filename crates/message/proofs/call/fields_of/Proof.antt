@@ -1,7 +1,6 @@
 -- `fields_of` meets its contract: a kind beyond the table has none. Assumes nothing.
 use borrow.Author.Needs.{needs}
 use Rattle.message.proofs.Calls.{fields-none}
-use borrow.Author.Needs.{needs}
 use Rattle.message.proofs.call.fields_of.Statement.{statement}
 use Rattle.message.proofs.call.fields_of.Tie as tie
 

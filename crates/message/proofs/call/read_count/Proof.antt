@@ -2,7 +2,6 @@
 use borrow.Author.Needs.{needs}
 use mathlib.Core.Path.{sym, _∙_}
 use Rattle.message.proofs.CountSteps.{count-34, count-35, count-ok, count-not}
-use borrow.Author.Needs.{needs}
 use Rattle.message.proofs.call.read_count.Statement.{statement}
 use Rattle.message.proofs.call.read_count.Tie as tie
 

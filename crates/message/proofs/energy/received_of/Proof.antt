@@ -1,7 +1,6 @@
 -- `received_of` meets its contract, by the laws of an energy's word. Assumes nothing.
 use borrow.Author.Needs.{needs}
 use Rattle.message.proofs.Energies.{word-even, word-odd}
-use borrow.Author.Needs.{needs}
 use Rattle.message.proofs.energy.received_of.Statement.{statement}
 use Rattle.message.proofs.energy.received_of.Tie as tie
 

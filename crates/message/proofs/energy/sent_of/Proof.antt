@@ -1,7 +1,6 @@
 -- `sent_of` meets its contract, by the laws of an energy's word. Assumes nothing.
 use borrow.Author.Needs.{needs}
 use Rattle.message.proofs.Energies.{sent-up, sent-down}
-use borrow.Author.Needs.{needs}
 use Rattle.message.proofs.energy.sent_of.Statement.{statement}
 use Rattle.message.proofs.energy.sent_of.Tie as tie
 

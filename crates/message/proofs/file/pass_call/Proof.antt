@@ -3,7 +3,6 @@ use borrow.Author.Needs.{needs}
 use mathlib.Core.Path.{sym, _∙_}
 use Rattle.message.proofs.Placed.{found}
 use Rattle.message.proofs.FileSteps.{call-goes, call-not}
-use borrow.Author.Needs.{needs}
 use Rattle.message.proofs.file.pass_call.Statement.{statement}
 use Rattle.message.proofs.file.pass_call.Tie as tie
 

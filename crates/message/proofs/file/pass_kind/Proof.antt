@@ -3,7 +3,6 @@ use borrow.Author.Needs.{needs}
 use mathlib.Core.Path.{sym, _∙_}
 use borrow.Author.Tests.{not-true, not-false}
 use Rattle.message.proofs.FileSteps.{kind-bad, kind-not, fields-placed, kind-goes}
-use borrow.Author.Needs.{needs}
 use Rattle.message.proofs.file.pass_kind.Statement.{statement}
 use Rattle.message.proofs.file.pass_kind.Tie as tie
 

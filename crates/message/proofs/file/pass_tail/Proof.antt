@@ -4,7 +4,6 @@ use mathlib.Core.Path.{sym, _∙_}
 use Rattle.quantity.specs.Limits.{mostQuarters}
 use Rattle.message.proofs.CountSteps.{counted}
 use Rattle.message.proofs.FileSteps.{tail-not, tail-count, tail-numbers}
-use borrow.Author.Needs.{needs}
 use Rattle.message.proofs.file.pass_tail.Statement.{statement}
 use Rattle.message.proofs.file.pass_tail.Tie as tie
 

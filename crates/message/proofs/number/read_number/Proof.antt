@@ -1,7 +1,6 @@
 -- `read_number` meets its contract, by its first byte. Assumes nothing.
 use borrow.Author.Needs.{needs}
 use Rattle.message.proofs.NumberSteps.{none-at, only-at, more-at}
-use borrow.Author.Needs.{needs}
 use Rattle.message.proofs.number.read_number.Statement.{statement}
 use Rattle.message.proofs.number.read_number.Tie as tie
 
