@@ -1,16 +1,18 @@
 -- What holds of the verdict on a file, for any bytes. Assumes nothing.
-use Prim.Native.Nat.{ℕ, zero, suc, _%_}
-use mathlib.Core.Path.{_≡_, refl, ap, _∙_}
+use Prim.Native.Nat.{ℕ, zero, suc, _+_, _-_, _*_, _%_}
+use mathlib.Core.Path.{_≡_, refl, sym, ap, _∙_}
 use mathlib.Core.Logic.{_↔_}
 use mathlib.Core.Bool.{Bool, true, false, cond, not, _&&_}
 use mathlib.Core.List.{List, [], _∷_}
 use native.Mathlib.Omega.{arith}
 use lib.Dec.{ltb, eqb}
-use lib.ListN.{length}
+use lib.IntN.{pos, negsuc}
+use lib.ListN.{length, replicate}
 use Rattle.quantity.specs.Limits.{mostQuarters, within}
 use Rattle.message.specs.Cause.{causeNumber}
 use Rattle.message.specs.Read.{Read, got, refused, onward}
 use Rattle.message.specs.Number.{areBytes, lastByte, above, decodeIn, decode, numbersIn}
+use Rattle.message.specs.Energy.{sent}
 use Rattle.message.specs.Call.{Sent, submission, fieldsOf, isKind, countIn, energiesIn, seriesIn, tailIn, bodyIn, kindIn, parse}
 use Rattle.message.specs.File.{printAll, Ending, whole, stopped, Found, callsWithin, callsIn, CarriedAll, verdictAt, verdictOf, refusalOf, offsetOf}
 use Rattle.message.specs.declared.FileCause.{FileCause}
@@ -112,3 +114,26 @@ accepted-file s b = (
 pub p12 : (refusalOf (verdictOf (128 ∷ 0 ∷ [])) ≡ 32) × (offsetOf (verdictOf (128 ∷ 0 ∷ [])) ≡ 0)
 unfolding callsWithin decodeIn
 p12 = (refl, refl)
+
+-- each cause's number, by a file that has it
+pub record CauseNumbers : Type 0 where
+  -- "file ends inside a call": behind the kind, and behind a count that is not too large
+  pub cut : (refusalOf (verdictOf (7 ∷ [])) ≡ 31) × (refusalOf (verdictOf (4 ∷ 1 ∷ 7 ∷ 2 ∷ 164 ∷ 23 ∷ [])) ≡ 31)
+  -- "file number not shortest" (P12), "or its ninth byte has the top bit set"
+  pub form : refusalOf (verdictOf (replicate 9 128)) ≡ 32
+  -- "call kind not 1..7"
+  pub kind : (refusalOf (verdictOf (0 ∷ [])) ≡ 33) × (refusalOf (verdictOf (8 ∷ [])) ≡ 33)
+  -- "series count above 2,980"
+  pub count : refusalOf (verdictOf (4 ∷ 1 ∷ 7 ∷ 2 ∷ 165 ∷ 23 ∷ [])) ≡ 34
+  -- "reader: series count above the length of the lent series buffer"
+  pub room : (x : FileCause) → parse 1 (4 ∷ 1 ∷ 7 ∷ 2 ∷ 2 ∷ []) ≡ refused x → causeNumber x ≡ 35
+
+pub cause-numbers : CauseNumbers
+unfolding callsWithin decodeIn numbersIn
+cause-numbers =
+    record { cut = (refl, refl); form = refl; kind = (refl, refl); count = refl; room = λ x e. let y : NoRoom ≡ x = cc in ap causeNumber (sym y) }
+
+-- "An energy v is sent as 2v if v ≥ 0, else -2v-1.": of -n-1 it is 2(n+1)-1
+pub sent-number : (n : ℕ) → (sent (pos n) ≡ 2 * n) × (sent (negsuc n) ≡ 2 * (n + 1) - 1)
+unfolding sent
+sent-number n = (refl, omega arith)

@@ -1,3 +1,4 @@
 pub mod Filling
+pub mod FromFile
 pub mod ReaderSteps
 pub mod Theorems
