@@ -40,10 +40,12 @@ returns c =
     let p = c .before .before .before .before .before .before .before in
     let a = p .args in
     let call = notices (a .point .0) (a .version .0) (a .verdict) (a .day .0) in
-    let u = unmoved (a .d) (c .refuse .ensures) in
-    (u .0, λ s.
-    let stores = storing s (a .values .now) (a .book .now) (a .log .now) in
-    all-refused (a .d) call stores refl (unfit (a .d) (told (lent call stores)) refl (sym (p .pre .valid) ∙ not-true _ (c .before .if1 .taken))) (u .1))
+    let u = unmoved (a .d) (c .refuse .ensures) in (
+      u .0,
+      λ s.
+          let stores = storing s (a .values .now) (a .book .now) (a .log .now) in
+          all-refused (a .d) call stores refl (unfit (a .d) (told (lent call stores)) refl (sym (p .pre .valid) ∙ not-true _ (c .before .if1 .taken))) (u .1),
+    )
 
 notice-turn-requires : tie.Need-notice-turn-requires
 notice-turn-requires c κs = search needs
@@ -79,10 +81,12 @@ returns-2 : tie.Need-returns-2
 returns-2 c =
     let a = c .before .before .before .before .before .before .before .before .before .before .before .before .before .before .args in
     let call = notices (a .point .0) (a .version .0) (a .verdict) (a .day .0) in
-    let u = unmoved (a .d) (c .refuse2 .ensures) in
-    (u .0, λ s.
-    let stores = storing s (a .values .now) (a .book .now) (a .log .now) in
-    all-refused (a .d) call stores (c .before .before .before .before .notice-checks .ensures ∙ sym (fit (a .d) (told (lent call stores)) refl (valid (c .before .before .before .before .before .before .before .before)))) (c .before .before .decided .given .1) (u .1))
+    let u = unmoved (a .d) (c .refuse2 .ensures) in (
+      u .0,
+      λ s.
+          let stores = storing s (a .values .now) (a .book .now) (a .log .now) in
+          all-refused (a .d) call stores (c .before .before .before .before .notice-checks .ensures ∙ sym (fit (a .d) (told (lent call stores)) refl (valid (c .before .before .before .before .before .before .before .before)))) (c .before .before .decided .given .1) (u .1),
+    )
 
 same-length : tie.Need-same-length
 same-length c = search needs
@@ -97,10 +101,12 @@ returns-3 c =
     let call = notices (a .point .0) (a .version .0) (a .verdict) (a .day .0) in
     let g = c .before .before .before .before .before .notice-granted .ensures in
     let stepped = notice-stepped (a .d) (a .point .0) (a .version .0) (a .verdict) (a .day .0) (a .values .now) (a .book .now) (a .log .now) _ _ _ (sound (a .d) (valid (c .before .before .before .before .before .before .before .before .before .before .before .before .before .before))) (p .pre .table) (p .pre .survey .held) (turn-is (c .before .before .before .before .before .before .before .before .before .before .before .before)) (due-is (c .before .before .before .before .before .before .before .before .before .before .before)) (p .pre .here) g in
-    rw (c .accept .ensures .0, c .accept .ensures .1)
-    (g .fits, λ s.
-    let stores = storing s (a .values .now) (a .book .now) (a .log .now) in
-    all-granted (a .d) call stores (c .before .before .before .before .before .before .before .before .before .before .notice-checks .ensures ∙ sym (fit (a .d) (told (lent call stores)) refl (valid (c .before .before .before .before .before .before .before .before .before .before .before .before .before .before)))) (c .before .before .before .before .before .before .before .before .enum-told .given .1) stepped)
+    rw (c .accept .ensures .0, c .accept .ensures .1) (
+      g .fits,
+      λ s.
+          let stores = storing s (a .values .now) (a .book .now) (a .log .now) in
+          all-granted (a .d) call stores (c .before .before .before .before .before .before .before .before .before .before .notice-checks .ensures ∙ sym (fit (a .d) (told (lent call stores)) refl (valid (c .before .before .before .before .before .before .before .before .before .before .before .before .before .before)))) (c .before .before .before .before .before .before .before .before .enum-told .given .1) stepped,
+    )
 
 pub decide-notice-spec : {M : Type 1} → statement M
 decide-notice-spec =

@@ -1,0 +1,96 @@
+// A call to its own decision.
+use crate::asks::asks_of;
+use calls::activate::decide_activate;
+use calls::assign::decide_assign;
+use calls::deactivate::decide_deactivate;
+use calls::open::decide_open;
+use calls::settle::decide_settle;
+use checks::Decided;
+use checks::Look;
+use checks::Outcome;
+use checks::decisions::outcome;
+use checks::looks::look;
+use message::DeskCall;
+use notice::call::decide_notice;
+use quantity::limits::DELTAS;
+use state::Desk;
+use submit::call::decide_submit;
+ghost use mathlib.Core.List.{map};
+ghost use Rattle.quantity.specs.Word.{signed};
+ghost use Rattle.effect.specs.Effect.{changedBy, Fits};
+ghost use Rattle.model.specs.Causes.{terms};
+ghost use Rattle.checks.specs.Look.{Looked};
+ghost use Rattle.checks.specs.Stepped.{Stepped};
+ghost use Rattle.dispatch.specs.Asked.{asked};
+
+// By one look at the desk. The groups are an opening's, the series a submission's energies, as many as it has.
+pub fn decide(
+    d: Desk,
+    l: Look,
+    call: DeskCall,
+    groups: [u64; DELTAS as usize],
+    series: &[u64],
+    values: &mut [u64],
+    book: &mut [u64],
+    log: &mut [u64],
+) -> Decided
+    requires { ⌜ Looked d (terms (asked call groups (map signed (now series))) .asks) l ⌝ }
+    ensures { λ r. ⌜ Fits d (r .effect) × Stepped d (asked call groups (map signed (now (series .entry)))) (now (values .entry)) (now (book .entry)) (now (log .entry)) (r .answer) (changedBy d (r .effect)) (now (values .exit)) (now (book .exit)) (now (log .exit)) ⌝ }
+{
+    match call {
+        DeskCall::Open {
+            quarters,
+            first,
+            clearing,
+            correction,
+        } => decide_open(
+            d,
+            quarters,
+            first,
+            clearing,
+            correction,
+            groups,
+            values,
+            book,
+            log,
+        ),
+        DeskCall::Activate {
+            point,
+            kind,
+            area,
+            partner,
+            day,
+        } => decide_activate(d, l, point, kind, area, partner, day),
+        DeskCall::Deactivate { point, day } => decide_deactivate(d, l, point, day),
+        DeskCall::Submit {
+            point,
+            version,
+            day,
+        } => decide_submit(d, l, point, version, day, series, values, book, log),
+        DeskCall::Notice {
+            point,
+            version,
+            verdict,
+            day,
+        } => decide_notice(d, l, point, version, verdict, day, values, book, log),
+        DeskCall::Assign { area, group, day } => decide_assign(d, l.valid, area, group, day, book),
+        DeskCall::Settle { run, day } => decide_settle(d, l.valid, run, day),
+    }
+}
+
+// The state by value: a look at it, the decision, and the desk after it.
+pub fn answer(
+    d: Desk,
+    call: DeskCall,
+    groups: [u64; DELTAS as usize],
+    series: &[u64],
+    values: &mut [u64],
+    book: &mut [u64],
+    log: &mut [u64],
+) -> Outcome
+    ensures { λ r. ⌜ Stepped d (asked call groups (map signed (now (series .entry)))) (now (values .entry)) (now (book .entry)) (now (log .entry)) (r .answer) (r .desk) (now (values .exit)) (now (book .exit)) (now (log .exit)) ⌝ }
+{
+    let l = look(d, asks_of(call));
+    let r = decide(d, l, call, groups, series, values, book, log);
+    outcome(d, r)
+}
