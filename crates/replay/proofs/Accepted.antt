@@ -6,6 +6,7 @@ use mathlib.Core.List.{List, [], _∷_, _++_, map, map-append}
 use native.Mathlib.Omega.{arith}
 use lib.IntN.{ℤ}
 use lib.ListN.{length, length-append, length-map}
+use Rattle.quantity.specs.Lists.{fold}
 use Rattle.quantity.specs.Word.{word}
 use Rattle.book.specs.Row.{splice}
 use Rattle.state.specs.Change.{submitted, noticed}
@@ -13,11 +14,11 @@ use Rattle.state.specs.Desk.{versionsIn}
 use Rattle.state.specs.declared.Desk.{Desk}
 use Rattle.state.specs.declared.Opening.{Opening}
 use Rattle.model.specs.Agreement.{Own, left}
-use Rattle.model.specs.Call.{Call, opens, activates, deactivates, submits, notices, assigns, shows, asks, settles, Taken, takes, Stores, lengthsOf, Told}
-use Rattle.model.specs.Causes.{rules}
+use Rattle.model.specs.Call.{Call, opens, activates, deactivates, submits, notices, assigns, shows, asks, settles, Taken, Stores, lengthsOf, Told, telling}
+use Rattle.model.specs.Causes.{takes, rules}
 use Rattle.model.specs.Laws.{Passed}
 use Rattle.model.specs.Log.{due, logged, usedAfter}
-use Rattle.model.specs.Plain.{sets, energiesOf}
+use Rattle.model.specs.Plain.{workedOut, after, energiesOf}
 use Rattle.model.specs.Step.{granting, versionBy}
 use Rattle.model.specs.View.{viewOf}
 use Rattle.model.specs.declared.Due.{Due}
@@ -45,16 +46,16 @@ rows-more es base values n q x e R =
     }
 
 -- what a call leaves of the opening, the log, the book's length, the stores in their opening lengths, and the values
-pub record After (d : Desk) (s : Stores) (es : List (List ℤ)) (c : Call) : Type 0 where
-  pub opening : granting d s c .desk .opening ≡ d .opening
+pub record After (d : Desk) (s : Stores) (h : List Told) (c : Call) : Type 0 where
+  pub opening : granting d s c .desk .frame .opening ≡ d .frame .opening
   pub row : Due
-  pub log : granting d s c .stores .log ≡ logged (d .used) row (s .log)
-  pub used : granting d s c .desk .used ≡ usedAfter row (d .used)
+  pub log : granting d s c .stores .log ≡ logged (d .frame .used) row (s .log)
+  pub used : granting d s c .desk .frame .used ≡ usedAfter row (d .frame .used)
   pub book : length (granting d s c .stores .book) ≡ length (s .book)
   pub kept :
-      length (granting d s c .stores .values) ≡ d .opening .values → length (granting d s c .stores .book) ≡ d .opening .book → length (granting d s c .stores .log) ≡ d .opening .log
-      → left (granting d s c .desk .opening) (takes c) s (granting d s c .stores) ≡ granting d s c .stores
-  pub rows : (base : List ℕ) → Rows es base (s .values) (d .count) (d .opening .quarters) → Rows (sets c .energies es) base (granting d s c .stores .values) (granting d s c .desk .count) (d .opening .quarters)
+      length (granting d s c .stores .values) ≡ d .frame .opening .values → length (granting d s c .stores .book) ≡ d .frame .opening .book → length (granting d s c .stores .log) ≡ d .frame .opening .log
+      → left (granting d s c .desk .frame .opening) (takes c) s (granting d s c .stores) ≡ granting d s c .stores
+  pub rows : (base : List ℕ) → Rows (energiesOf h) base (s .values) (d .frame .count) (d .frame .opening .quarters) → Rows (energiesOf (telling (lengthsOf s) c ∷ h)) base (granting d s c .stores .values) (granting d s c .desk .frame .count) (d .frame .opening .quarters)
 
 -- the stores lent are the desk's own
 pub own-lent : (o : Opening) (t : Taken) (s : Stores) → Own o t s s
@@ -62,8 +63,8 @@ own-lent o t s = record { values = λ a b e. refl; book = λ a b e. refl; log = 
 
 module _ (d : Desk) (s : Stores) (h : List Told) (H : Holds d s h) where
   -- a call that leaves the stores
-  still : (c : Call) → granting d s c .desk .opening ≡ d .opening → granting d s c .stores ≡ s → granting d s c .desk .used ≡ d .used → granting d s c .desk .count ≡ d .count
-      → sets c .energies (energiesOf h) ≡ energiesOf h → After d s (energiesOf h) c
+  still : (c : Call) → granting d s c .desk .frame .opening ≡ d .frame .opening → granting d s c .stores ≡ s → granting d s c .desk .frame .used ≡ d .frame .used → granting d s c .desk .frame .count ≡ d .frame .count
+      → energiesOf (telling (lengthsOf s) c ∷ h) ≡ energiesOf h → After d s h c
   still c o e u n g =
       record {
         opening = o;
@@ -71,16 +72,17 @@ module _ (d : Desk) (s : Stores) (h : List Told) (H : Holds d s h) where
         log = ap (λ (a : Stores). a .log) e;
         used = u;
         book = ap (λ (a : Stores). length (a .book)) e;
-        kept = λ x y z. rw (o, e) (left-own (d .opening) s s (holds-open d s h H) (takes c) (own-lent (d .opening) (takes c) s));
+        kept = λ x y z. rw (o, e) (left-own (d .frame .opening) s s (holds-open d s h H) (takes c) (own-lent (d .frame .opening) (takes c) s));
         rows = λ base R. rw (g, e, n) R;
       }
 
   -- every call but the opening
-  pub after : (c : Call) → Passed (rules (viewOf d) (lengthsOf s) c) → After d s (energiesOf h) c
-  after (opens q f c k gs) P = absurd (true≢false (sym (holds-open d s h H) ∙ P .0))
-  after (activates p k a b e) P = still (activates p k a b e) refl refl refl refl refl
-  after (deactivates p e) P = still (deactivates p e) refl refl refl refl refl
-  after (submits p x e es) P =
+  pub left-by : (c : Call) → Passed (rules (viewOf d) (lengthsOf s) c) → After d s h c
+  unfolding workedOut after fold
+  left-by (opens q f c k gs) P = absurd (true≢false (sym (holds-open d s h H) ∙ P .0))
+  left-by (activates p k a b e) P = still (activates p k a b e) refl refl refl refl refl
+  left-by (deactivates p e) P = still (deactivates p e) refl refl refl refl refl
+  left-by (submits p x e es) P =
       let c = submits p x e es in
       let ws = submitted (versionBy d p x e) (versionsIn d) in
       record {
@@ -88,32 +90,32 @@ module _ (d : Desk) (s : Stores) (h : List Told) (H : Holds d s h) where
         row = due (versionsIn d) ws p e;
         log = refl;
         used = refl;
-        book = length-amended (d .opening .quarters) (granting d s c .stores .values) _ p (versionsIn d) ws (s .book);
-        kept = left-every (d .opening) s (granting d s c .stores);
-        rows = λ base R. rows-more (energiesOf h) base (s .values) (d .count) (d .opening .quarters) es (full p x e es d s h H P) R;
+        book = length-amended (d .frame .opening .quarters) (granting d s c .stores .values) _ p (versionsIn d) ws (s .book);
+        kept = left-every (d .frame .opening) s (granting d s c .stores);
+        rows = λ base R. rows-more (energiesOf h) base (s .values) (d .frame .count) (d .frame .opening .quarters) es (full p x e es d s h H P) R;
       }
-  after (notices p x y e) P =
+  left-by (notices p x y e) P =
       let c = notices p x y e in
-      let ws = noticed (d .opening .clearing .0) p x y e (versionsIn d) in
+      let ws = noticed (d .frame .opening .clearing .0) p x y e (versionsIn d) in
       record {
         opening = refl;
         row = due (versionsIn d) ws p e;
         log = refl;
         used = refl;
-        book = length-amended (d .opening .quarters) (s .values) _ p (versionsIn d) ws (s .book);
-        kept = left-every (d .opening) s (granting d s c .stores);
+        book = length-amended (d .frame .opening .quarters) (s .values) _ p (versionsIn d) ws (s .book);
+        kept = left-every (d .frame .opening) s (granting d s c .stores);
         rows = λ base R. R;
       }
-  after (assigns a g e) P =
+  left-by (assigns a g e) P =
       record {
         opening = refl;
         row = Nothing;
         log = refl;
         used = refl;
-        book = length-moved (d .opening .quarters) a _ g (s .book);
-        kept = λ x y z. left-book (d .opening) s (granting d s (assigns a g e) .stores) y;
+        book = length-moved (d .frame .opening .quarters) a _ g (s .book);
+        kept = λ x y z. left-book (d .frame .opening) s (granting d s (assigns a g e) .stores) y;
         rows = λ base R. R;
       }
-  after (shows r g) P = still (shows r g) refl refl refl refl refl
-  after (asks p x) P = still (asks p x) refl refl refl refl refl
-  after (settles r e) P = still (settles r e) refl refl refl refl refl
+  left-by (shows r g) P = still (shows r g) refl refl refl refl refl
+  left-by (asks p x) P = still (asks p x) refl refl refl refl refl
+  left-by (settles r e) P = still (settles r e) refl refl refl refl refl

@@ -13,10 +13,9 @@ use Rattle.book.proofs.Places.{row-within}
 use Rattle.model.specs.Agreement.{Running, fresh, Agree, bookFigure}
 use Rattle.model.specs.Call.{Stores, Lengths, Told}
 use Rattle.model.specs.Log.{logNumbers}
-use Rattle.model.specs.Plain.{openingOf, dayOf, pointsOf, groupsOf, versionsOf, energiesOf, logOf, settledOf, viewIn}
-use Rattle.model.specs.View.{View}
+use Rattle.model.specs.Plain.{workedOut, logOf, viewIn}
 use Rattle.model.proofs.Ends.{holds-agree}
-use Rattle.model.proofs.Invariant.{count-is}
+use Rattle.model.proofs.Invariant.{holds-view}
 use Rattle.replay.specs.Replay.{joined, Holding, Leaving}
 use Rattle.replay.proofs.Going.{Going, unopened, opened}
 use Rattle.replay.proofs.Opened.{figuresOf, ownOf, Opened}
@@ -24,11 +23,11 @@ use Rattle.replay.proofs.Over.{over-split}
 
 -- a desk that was never opened, and its stores
 fresh-holding : (s : Stores) → Holding [] (fresh s .desk)
-unfolding viewIn openingOf dayOf pointsOf groupsOf versionsOf logOf settledOf
-fresh-holding s = record { view = refl; groups = refl; count = refl }
+unfolding viewIn workedOut
+fresh-holding s = record { view = refl }
 
 fresh-leaving : (s : Stores) → Leaving [] s s
-unfolding openingOf energiesOf logOf logNumbers joined
+unfolding workedOut logNumbers joined
 fresh-leaving s =
     record {
       values = refl;
@@ -48,11 +47,11 @@ module _ (s : Stores) (r : Running) (h : List Told) (G : Opened s r h) where
   agrees = holds-agree [] [] own h refl (G .holds)
 
   -- a figure of the book is one of them
-  own-figure : (run k q : ℕ) → 1 ≤ run → run ≤ runs → k < runRows → q < r .desk .opening .quarters → signed (getD (r .stores .book) (rowStart (r .desk .opening .quarters) run k + q) 0) ≡ bookFigure own run k q
+  own-figure : (run k q : ℕ) → 1 ≤ run → run ≤ runs → k < runRows → q < r .desk .frame .opening .quarters → signed (getD (r .stores .book) (rowStart (r .desk .frame .opening .quarters) run k + q) 0) ≡ bookFigure own run k q
   unfolding bookFigure
   own-figure run k q a b c l =
-      let Q = r .desk .opening .quarters in
-      ap signed (sym (getD-take (figuresOf (r .desk .opening)) (r .stores .book) (rowStart Q run k + q) 0 (omega (arith, row-within Q run k a b c))))
+      let Q = r .desk .frame .opening .quarters in
+      ap signed (sym (getD-take (figuresOf (r .desk .frame .opening)) (r .stores .book) (rowStart Q run k + q) 0 (omega (arith, row-within Q run k a b c))))
 
   opened-leaving : Leaving h s (r .stores)
   opened-leaving =
@@ -60,7 +59,7 @@ module _ (s : Stores) (r : Running) (h : List Told) (G : Opened s r h) where
       let K = G .holds .kept in
       record {
         values = G .rows .words;
-        log = over-split (logNumbers (logOf h)) (s .log) (r .stores .log) (4 * r .desk .used) (omega (arith, K .framed .used, K .logLong)) (K .logged) (G .log);
+        log = over-split (logNumbers (logOf h)) (s .log) (r .stores .log) (4 * r .desk .frame .used) (omega (arith, K .framed .used, K .logLong, G .holds .used)) (rw (G .holds .used) (K .logged)) (G .log);
         figures = rw (← A .opening) (λ run k q a b c l. own-figure run k q a b c l ∙ A .figures run k q a b c l);
         sum =
             rw (← A .opening)
@@ -71,11 +70,8 @@ module _ (s : Stores) (r : Running) (h : List Told) (G : Opened s r h) where
 
 -- the desk holds what the plain desk works out
 pub going-holding : (s : Stores) (r : Running) (h : List Told) → Going s r h → Holding h (r .desk)
-unfolding viewIn
 going-holding s r h (unopened a b) = rw (a, b) (fresh-holding s)
-going-holding s r h (opened G) =
-    let H = G .holds in
-    record { view = H .view; groups = H .groups; count = sym (count-is (r .desk) (H .table)) ∙ ap (λ (v : View). length (v .versions)) (H .view) }
+going-holding s r h (opened G) = record { view = holds-view (r .desk) (ownOf r) h (G .holds) }
 
 -- and so do its stores
 pub going-leaving : (s : Stores) (r : Running) (h : List Told) → Going s r h → Leaving h s (r .stores)

@@ -10,14 +10,14 @@ use lib.Seq.{length-take-le}
 use Rattle.quantity.specs.Limits.{bookRows}
 use Rattle.quantity.proofs.Tests.{by-test}
 use Rattle.model.specs.Agreement.{Running, Own, fresh}
-use Rattle.model.specs.Call.{Call, takes, Stores, Lengths, lengthsOf, Told, told, telling}
-use Rattle.model.specs.Plain.{openingOf, viewIn, plainReply}
+use Rattle.model.specs.Call.{Call, Stores, Lengths, lengthsOf, Told, told, telling}
+use Rattle.model.specs.Causes.{terms, takes}
+use Rattle.model.specs.Plain.{Worked, workedOut, openingOf, plainReply}
 use Rattle.model.specs.Step.{replyOf}
-use Rattle.model.specs.View.{View}
-use Rattle.model.proofs.Fresh.{after, fresh-step}
+use Rattle.model.proofs.Fresh.{holding, fresh-step}
 use Rattle.model.proofs.Invariant.{book-is}
 use Rattle.model.proofs.Main.{one-step}
-use Rattle.replay.specs.Feeding.{quartersFor, lentOf, lengthsFor, toldAs}
+use Rattle.replay.specs.Feeding.{lentOf, lengthsFor, toldAs}
 use Rattle.replay.specs.Play.{reach, lentTo, outcomeOf}
 use Rattle.replay.proofs.Opened.{figuresOf, ownOf, Opened}
 
@@ -33,16 +33,16 @@ module _ (r : Running) (c : Call) where
   pub reach-fits : reach r c ≤ length (r .stores .book)
   unfolding reach lentOf
   reach-fits =
-      let n = bookRows * quartersFor (r .desk .opening .quarters) c in
+      let n = bookRows * terms c .quarters (r .desk .frame .opening .quarters) in
       by-test (λ (m : ℕ). m ≤ length (r .stores .book)) (leb n (length (r .stores .book))) n (length (r .stores .book)) (λ e. leb-true n (length (r .stores .book)) e) (λ _. omega arith)
 
   lent-long : length (take (reach r c) (r .stores .book)) ≡ reach r c
   lent-long = length-take-le (reach r c) (r .stores .book) reach-fits
 
   -- the desk's figures, where Q is its own and the book has so many
-  pub reach-whole : quartersFor (r .desk .opening .quarters) c ≡ r .desk .opening .quarters → figuresOf (r .desk .opening) ≤ length (r .stores .book) → reach r c ≡ figuresOf (r .desk .opening)
+  pub reach-whole : terms c .quarters (r .desk .frame .opening .quarters) ≡ r .desk .frame .opening .quarters → figuresOf (r .desk .frame .opening) ≤ length (r .stores .book) → reach r c ≡ figuresOf (r .desk .frame .opening)
   unfolding reach lentOf
-  reach-whole e h = rw (e, le-leb (figuresOf (r .desk .opening)) (length (r .stores .book)) h)
+  reach-whole e h = rw (e, le-leb (figuresOf (r .desk .frame .opening)) (length (r .stores .book)) h)
 
 module _ (s : Stores) (r : Running) (h : List Told) (c : Call) where
   -- ---- what is told
@@ -51,10 +51,10 @@ module _ (s : Stores) (r : Running) (h : List Told) (c : Call) where
   lengths-stay (unopened a b) = ap (λ (x : Running). lengthsOf (x .stores)) a
   lengths-stay (opened G) = G .lengths
 
-  same-quarters : Going s r h → r .desk .opening .quarters ≡ openingOf h .quarters
-  unfolding viewIn openingOf
-  same-quarters (unopened a b) = ap (λ (x : Running). x .desk .opening .quarters) a ∙ ap (λ (l : List Told). openingOf l .quarters) (sym b)
-  same-quarters (opened G) = ap (λ (v : View). v .opening .quarters) (G .holds .view)
+  same-quarters : Going s r h → r .desk .frame .opening .quarters ≡ openingOf h .quarters
+  unfolding workedOut
+  same-quarters (unopened a b) = ap (λ (x : Running). x .desk .frame .opening .quarters) a ∙ ap (λ (l : List Told). openingOf l .quarters) (sym b)
+  same-quarters (opened G) = ap (λ (w : Worked). w .opening .quarters) (G .holds .works)
 
   -- the plain desk is told the lengths that are lent
   pub told-is : Going s r h → told (lentTo r c) ≡ toldAs (lengthsOf s) h c
@@ -66,19 +66,19 @@ module _ (s : Stores) (r : Running) (h : List Told) (c : Call) where
   -- ---- what is answered
 
   -- the first figures of the book, lent in its opening length, are the desk's own
-  lent-own : Opened s r h → Own (r .desk .opening) (takes c) (ownOf r) (lentTo r c .stores)
+  lent-own : Opened s r h → Own (r .desk .frame .opening) (takes c) (ownOf r) (lentTo r c .stores)
   unfolding lentTo
   lent-own G =
       record {
         values = λ e t z. refl;
-        book = λ e t z. ap (λ (n : ℕ). take n (r .stores .book)) (sym (lent-long r c) ∙ z ∙ book-is (r .desk .opening) (G .holds .kept .framed .opening));
+        book = λ e t z. ap (λ (n : ℕ). take n (r .stores .book)) (sym (lent-long r c) ∙ z ∙ book-is (r .desk .frame .opening) (G .holds .kept .framed .opening));
         log = λ e t z. refl;
       }
 
   lent-reply : Going s r h → replyOf (outcomeOf r c) ≡ plainReply h (told (lentTo r c))
   unfolding lentTo
   lent-reply (unopened a b) = fresh-step r h (lentTo r c) (ap (λ (x : Running). x .desk) a) b .0
-  lent-reply (opened G) = one-step (record { desk = r .desk; stores = ownOf r }) h (lentTo r c) (after (G .holds)) (lent-own G) .0
+  lent-reply (opened G) = one-step (record { desk = r .desk; stores = ownOf r }) h (lentTo r c) (holding (G .holds)) (lent-own G) .0
 
   -- the plain desk's reply to what it is told
   pub same-reply : Going s r h → replyOf (outcomeOf r c) ≡ plainReply h (toldAs (lengthsOf s) h c)

@@ -1,5 +1,5 @@
 -- Whatever a call posts, in any book, the book keeps its length. Assumes nothing.
-use Prim.Native.Nat.{ℕ}
+use Prim.Native.Nat.{ℕ, _*_}
 use mathlib.Core.Path.{_≡_, refl, _∙_}
 use mathlib.Core.List.{List}
 use native.Mathlib.Omega.{arith}
@@ -13,11 +13,10 @@ use Rattle.book.specs.declared.Way.the-variants.{In, Out}
 use Rattle.book.proofs.Rows.{length-zip}
 use Rattle.state.specs.Selection.{own, orElse}
 use Rattle.state.specs.declared.Selection.{Selection}
+use Rattle.state.specs.declared.Selection.the-variants.{None, Selected}
 use Rattle.state.specs.declared.VersionRecord.{VersionRecord}
 use Rattle.model.specs.Log.{differ}
-use Rattle.model.specs.Step.{placeOf, postFrom, amendRow, amendSide, amendSides, amendRun, amended, moveRun, moved}
-use Rattle.model.specs.declared.Place.{Place}
-use Rattle.model.specs.declared.Place.the-variants.{Nowhere, At}
+use Rattle.model.specs.Step.{postFrom, amendRow, amendSide, amendSides, amendRun, amended, moveRun, moved}
 use Rattle.model.specs.declared.Side.{Side}
 use Rattle.model.specs.declared.Side.the-variants.{Outside, Group, Delta}
 use Rattle.model.specs.declared.Sides.{Sides}
@@ -32,12 +31,12 @@ unfolding posted
 length-posted w book start q values at = length-spliced book _ start q (length-zip (changed w) (part book start q) (part values at q))
 
 module _ (q : ℕ) (values : List ℕ) where
-  post-from : (w : Way) (book : List ℕ) (start : ℕ) (p : Place) → length (postFrom w book start q values p) ≡ length book
+  post-from : (w : Way) (book : List ℕ) (start : ℕ) (s : Selection) → length (postFrom w book start q values s) ≡ length book
   unfolding postFrom
-  post-from w book start Nowhere = refl
-  post-from w book start (At i) = length-posted w book start q values i
+  post-from w book start None = refl
+  post-from w book start (Selected r) = length-posted w book start q values (r .row .0 * q)
 
-  module _ (run : ℕ) (old new : Place) where
+  module _ (run : ℕ) (old new : Selection) where
     amend-row : (w : Way) (k : ℕ) (book : List ℕ) → length (amendRow w run q k old new values book) ≡ length book
     unfolding amendRow
     amend-row w k book = post-from w _ (rowStart q run k) new ∙ post-from (back w) book (rowStart q run k) old
@@ -52,16 +51,16 @@ module _ (q : ℕ) (values : List ℕ) where
     unfolding amendSides
     amend-sides s book = amend-side Out (s .from) _ ∙ amend-side In (s .to) book
 
-  amend-run : (run : ℕ) (s : Sides) (vs : List VersionRecord) (old new : Selection) (book : List ℕ) → length (amendRun run q s vs old new values book) ≡ length book
+  amend-run : (run : ℕ) (s : Sides) (old new : Selection) (book : List ℕ) → length (amendRun run q s old new values book) ≡ length book
   unfolding amendRun
-  amend-run run s vs old new book =
-      by-test (λ (l : List ℕ). length l ≡ length book) (differ old new) _ book (λ _. amend-sides run (placeOf q vs old) (placeOf q vs new) s book) (λ _. refl)
+  amend-run run s old new book =
+      by-test (λ (l : List ℕ). length l ≡ length book) (differ old new) _ book (λ _. amend-sides run old new s book) (λ _. refl)
 
   -- a change of the versions of a point
   pub length-amended : (s : Sides) (p : ℕ) (vs ws : List VersionRecord) (book : List ℕ) → length (amended q s p vs ws values book) ≡ length book
   unfolding amended
   length-amended s p vs ws book =
-      amend-run 2 s ws (orElse (own 2 p vs) (own 1 p vs)) (orElse (own 2 p ws) (own 1 p ws)) _ ∙ amend-run 1 s ws (own 1 p vs) (own 1 p ws) book
+      amend-run 2 s (orElse (own 2 p vs) (own 1 p vs)) (orElse (own 2 p ws) (own 1 p ws)) _ ∙ amend-run 1 s (own 1 p vs) (own 1 p ws) book
 
 move-run : (run q a old new : ℕ) (book : List ℕ) → length (moveRun run q a old new book) ≡ length book
 unfolding moveRun

@@ -6,11 +6,10 @@ use native.Mathlib.Nat.{zero-add}
 use native.Mathlib.Omega.{arith}
 use lib.ListN.{length, set}
 use lib.Seq.{sets, sets-eq}
-use Rattle.message.specs.Call.{Sent}
 use Rattle.model.specs.Call.{Stores, lengthsOf, Told, Reply, answerNumber}
 use Rattle.model.specs.Plain.{plainNext, plainReplies, plainEnd}
 use Rattle.replay.specs.Feeding.{toldAs, tells}
-use Rattle.replay.specs.Given.{given}
+use Rattle.replay.specs.Given.{Given, given}
 use Rattle.replay.specs.Play.{Playing, played, play, starting}
 use Rattle.replay.specs.Replay.{numbersOf, seriesLeft, toldOf, Holding, Gives}
 use Rattle.replay.proofs.Ends.{going-holding, going-leaving}
@@ -18,32 +17,32 @@ use Rattle.replay.proofs.Going.{Going, unopened, same-reply}
 use Rattle.replay.proofs.Steps.{kept}
 
 -- the series buffer
-series-left : (p : Playing) (cs : List Sent) → play p cs .series ≡ seriesLeft (p .series) cs
+series-left : (p : Playing) (cs : List Given) → play p cs .series ≡ seriesLeft (p .series) cs
 unfolding play played seriesLeft
 series-left p [] = refl
 series-left p (c ∷ cs) = series-left (played p c) cs
 
 -- how many are answered
-all-answered : (p : Playing) (cs : List Sent) → play p cs .answered ≡ p .answered + length cs
+all-answered : (p : Playing) (cs : List Given) → play p cs .answered ≡ p .answered + length cs
 unfolding play played
 all-answered p [] = omega arith
 all-answered p (c ∷ cs) = all-answered (played p c) cs ∙ omega arith
 
 module _ (s : Stores) where
   -- the plain desk's answers to calls of a file, and its list after them
-  abbrev numbers : List Told → List Sent → List ℕ
+  abbrev numbers : List Told → List Given → List ℕ
   numbers h cs = numbersOf (plainReplies h (tells (lengthsOf s) h (map given cs)))
 
-  abbrev ends : List Told → List Sent → List Told
+  abbrev ends : List Told → List Given → List Told
   ends h cs = plainEnd h (tells (lengthsOf s) h (map given cs))
 
-  length-numbers : (h : List Told) (cs : List Sent) → length (numbers h cs) ≡ length cs
+  length-numbers : (h : List Told) (cs : List Given) → length (numbers h cs) ≡ length cs
   unfolding plainReplies tells
   length-numbers h [] = refl
   length-numbers h (c ∷ cs) = ap suc (length-numbers (plainNext h (toldAs (lengthsOf s) h (given c))) cs)
 
   -- one call after the other
-  goes : (p : Playing) (h : List Told) (cs : List Sent) → Going s (p .running) h
+  goes : (p : Playing) (h : List Told) (cs : List Given) → Going s (p .running) h
       → Going s (play p cs .running) (ends h cs) × (play p cs .answers ≡ sets (p .answers) (p .answered) (numbers h cs))
   unfolding play played plainReplies plainEnd tells
   goes p h [] G = (G, refl)
@@ -53,7 +52,7 @@ module _ (s : Stores) where
       let one = same-reply s (p .running) h (given c) G in
       (rest .0, rest .1 ∙ ap (λ (x : Reply). sets (set (p .answers) (p .answered) (answerNumber (x .answer))) (suc (p .answered)) (numbers next cs)) one)
 
-module _ (s : Stores) (series answers : List ℕ) (cs : List Sent) where
+module _ (s : Stores) (series answers : List ℕ) (cs : List Given) where
   -- every call is answered
   pub answered : play (starting s series answers) cs .answered ≡ length cs
   answered = all-answered (starting s series answers) cs ∙ zero-add (length cs)

@@ -16,7 +16,8 @@ use lib.Seq.{take-nil}
 use Rattle.quantity.specs.Word.{word, signed}
 use Rattle.message.specs.Call.{Sent, parse}
 use Rattle.message.specs.File.{Ending, whole, stopped, stop, callsIn}
-use Rattle.message.specs.Named.{callOf, groupsOf}
+use Rattle.message.specs.Named.{groupsOf}
+use Rattle.message.specs.declared.DeskCall.{DeskCall}
 use Rattle.message.specs.Read.{Read, got, refused}
 use Rattle.message.proofs.Calls.{parse-read}
 use Rattle.message.proofs.Files.{calls-none, calls-next, calls-stop}
@@ -26,12 +27,13 @@ use Rattle.model.specs.Agreement.{Running}
 use Rattle.model.specs.Call.{Call, Stores, answerNumber}
 use Rattle.model.specs.declared.Answer.{Answer}
 use Rattle.checks.specs.Stepped.{storesOf}
-use Rattle.reader.specs.Reader.{filled, readAt, seriesAfter}
+use Rattle.reader.specs.Reader.{padded, filled, readAt, seriesAfter}
 use Rattle.reader.specs.declared.Step.{Step}
 use Rattle.reader.specs.declared.Step.the-variants.{Call as CallRead, End as FileEnd, Refused as NotRead}
 use Rattle.reader.proofs.Step.{the-type as step-type}
 use Rattle.reader.proofs.Theorems.{Stepped, reader-end, reader-call, reader-refused, end-keeps, reader-keeps}
-use Rattle.replay.specs.Given.{asked}
+use Rattle.dispatch.specs.Asked.{asked}
+use Rattle.replay.specs.Given.{givenIn}
 use Rattle.replay.specs.Play.{Playing, played, play}
 use Rattle.replay.specs.Replay.{callsFor, endingOf}
 use Rattle.replay.specs.Run.{runningOf, Handed, playingOf, endedBy, Ran}
@@ -57,7 +59,7 @@ pub record Going (s : List ℕ) (start p : Playing) (at : ℕ) : Type 0 where
   pub few : p .answered ≤ length (start .answers)
   pub sized : Sized start p
   pub same : play start (callsFor s (length (start .series)) (length (start .answers)))
-      ≡ play p (take (length (start .answers) - p .answered) (callsIn (length (start .series)) (drop at s) .calls))
+      ≡ play p (take (length (start .answers) - p .answered) (givenIn (callsIn (length (start .series)) (drop at s) .calls)))
   pub ending : endingOf (length s) (length (start .answers)) (callsIn (length (start .series)) s)
       ≡ endingOf (length s) (length (start .answers) - p .answered) (callsIn (length (start .series)) (drop at s))
 
@@ -91,14 +93,14 @@ bytes-left n room s h = go (parse room s) refl
     go (got c r) e = rw (calls-next room s e) (ending-full n c (callsIn room r .calls) (callsIn room r .left) (callsIn room r .ending))
     go (refused x) e = rw (calls-stop room s h e)
 
-same-room : {s fields : List ℕ} {at room other k n m : ℕ} → room ≡ other → Stepped s at room k n m fields → Stepped s at other k n m fields
+same-room : {s groups : List ℕ} {at room other n m : ℕ} {d : DeskCall} → room ≡ other → Stepped s at room d n m groups → Stepped s at other d n m groups
 same-room e t = rw e at t
 
 module _ {s : List ℕ} {start p : Playing} {at : ℕ} (w : Going s start p at) where
   -- the next call
-  goes : {q : Playing} {k n m : ℕ} {fields : List ℕ} (t : Stepped s at (length (start .series)) k n m fields) → p .answered < length (start .answers) →
-      q ≡ played p (t .call) → Sized p q → Going s start q m
-  unfolding play played
+  goes : {q : Playing} {n m : ℕ} {groups : List ℕ} {d : DeskCall} (t : Stepped s at (length (start .series)) d n m groups) → p .answered < length (start .answers) →
+      q ≡ played p (record { call = d; groups = groupsOf (padded (t .call .fields)); energies = t .call .energies }) → Sized p q → Going s start q m
+  unfolding play played givenIn
   goes {q} {m = m} t h e z =
       let room = length (start .series) in
       let most = length (start .answers) in
@@ -114,45 +116,46 @@ module _ {s : List ℕ} {start p : Playing} {at : ℕ} (w : Going s start p at) 
           series = z .series ∙ w .sized .series;
           answers = z .answers ∙ w .sized .answers;
         };
-        same = w .same ∙ rw (t .calls, less, e);
+        same = w .same ∙ rw (t .calls, t .named, less, e);
         ending = w .ending ∙ rw (t .calls, less, e) (ending-next (length s) (most - suc (p .answered)) (t .call) (rest .calls) (rest .left) (rest .ending));
       }
 
   -- a call that was read
-  stepped : {k n m : ℕ} → readAt s at (length (p .series)) .step ≡ CallRead k n m → Stepped s at (length (start .series)) k n m (readAt s at (length (p .series)) .fields)
+  stepped : {n m : ℕ} {d : DeskCall} → readAt s at (length (p .series)) .step ≡ CallRead d n m → Stepped s at (length (start .series)) d n m (readAt s at (length (p .series)) .groups)
   stepped e = same-room (w .sized .series) (reader-call s at (length (p .series)) e)
 
   -- its energies stand in the first places of the buffer
-  filling : {k n m : ℕ} (e : readAt s at (length (p .series)) .step ≡ CallRead k n m) → seriesAfter s at (p .series) ≡ filled (stepped e .call .energies) (p .series)
+  filling : {n m : ℕ} {d : DeskCall} (e : readAt s at (length (p .series)) .step ≡ CallRead d n m) → seriesAfter s at (p .series) ≡ filled (stepped e .call .energies) (p .series)
   filling e = rw (w .sized .series, stepped e .parsed)
 
   -- so many that they have room there
-  pub energies-inside : {k n m : ℕ} {series : List ℕ} → readAt s at (length (p .series)) .step ≡ CallRead k n m → series ≡ seriesAfter s at (p .series) → n ≤ length series
+  pub energies-inside : {n m : ℕ} {d : DeskCall} {series : List ℕ} → readAt s at (length (p .series)) .step ≡ CallRead d n m → series ≡ seriesAfter s at (p .series) → n ≤ length series
   energies-inside e f =
       let t = stepped e in
       rw (f, filling e, length-append (map word (t .call .energies)) (drop (length (t .call .energies)) (p .series)), length-map (t .call .energies) word)
       (omega (arith, t .count))
 
   -- it is answered
-  pub again : {k n m x : ℕ} {fields series : List ℕ} {answer : Answer} {desk : Desk} {values book log : List ℕ} → p .answered < length (start .answers) →
-      readAt s at (length (p .series)) .step ≡ CallRead k n m → fields ≡ readAt s at (length (p .series)) .fields → series ≡ seriesAfter s at (p .series) →
-      Handed (p .running) (asked (callOf k fields (length (take (n - 0) series))) (groupsOf fields) (map signed (take (n - 0) series))) answer (runningOf desk (storesOf values book log)) → x ≡ answerNumber answer →
+  pub again : {n m x : ℕ} {call : DeskCall} {groups series : List ℕ} {answer : Answer} {desk : Desk} {values book log : List ℕ} → p .answered < length (start .answers) →
+      readAt s at (length (p .series)) .step ≡ CallRead call n m → groups ≡ readAt s at (length (p .series)) .groups → series ≡ seriesAfter s at (p .series) →
+      Handed (p .running) (asked call groups (map signed (take (n - 0) series))) answer (runningOf desk (storesOf values book log)) → x ≡ answerNumber answer →
       Sized p (playingOf desk (storesOf values book log) series (set (p .answers) (p .answered) x) (p .answered + 1)) →
       Going s start (playingOf desk (storesOf values book log) series (set (p .answers) (p .answered) x) (p .answered + 1)) m
   unfolding played
-  again h e f g v x z =
+  again {call = call} h e f g v x z =
       let t = stepped e in
       let c = t .call in
-      let u = rw (same-call c (parse-read (length (start .series)) (drop at s) (t .parsed) .carried) (p .series) (t .kind) (t .count) (f ∙ t .padding) (g ∙ filling e)) at v in
+      let u = rw (same-call c (parse-read (length (start .series)) (drop at s) (t .parsed) .carried) (p .series) call (t .count) (f ∙ t .beside) (g ∙ filling e)) at v in
       goes t h (rw (add-one, u .running, g ∙ filling e, x, u .answered)) z
 
   -- nothing remains to be done
-  done : {e : EndingOf} → take (length (start .answers) - p .answered) (callsIn (length (start .series)) (drop at s) .calls) ≡ [] →
+  done : {e : EndingOf} → take (length (start .answers) - p .answered) (givenIn (callsIn (length (start .series)) (drop at s) .calls)) ≡ [] →
       e ≡ endingOf (length s) (length (start .answers) - p .answered) (callsIn (length (start .series)) (drop at s)) → Ran s start p e
-  unfolding play
+  unfolding play givenIn
   done n e = record { played = sym (w .same ∙ rw n); ended = e ∙ sym (w .ending) }
 
   at-end : at ≡ length s → Ran s start p End
+  unfolding givenIn
   at-end e =
       let c : callsIn (length (start .series)) (drop at s) ≡ _ = ap (callsIn (length (start .series))) (drop-of-length-le s {i = at} (omega arith)) ∙ calls-none (length (start .series)) in
       done (rw (c, take-nil)) (rw (c, le-leb 0 (length (start .answers) - p .answered) (omega arith)))
@@ -173,7 +176,8 @@ module _ {s : List ℕ} {start p : Playing} {at : ℕ} (w : Going s start p at) 
   -- no call is read
   pub unread : (t : Step) {series : List ℕ} → p .answered < length (start .answers) → OneOf (1 ∷ 2 ∷ []) (tagOf step-type t) → readAt s at (length (p .series)) .step ≡ t →
       series ≡ seriesAfter s at (p .series) → Ran s start (record { running = p .running; series = series; answers = p .answers; answered = p .answered }) (endedBy t)
-  unread (CallRead k n m) h o e f = absurd (⊎-elim (λ (x : 0 ≡ 1). omega arith) (λ (x : 0 ≡ 2). omega arith) o)
+  unfolding givenIn
+  unread (CallRead d n m) h o e f = absurd (⊎-elim (λ (x : 0 ≡ 1). omega arith) (λ (x : 0 ≡ 2). omega arith) o)
   unread FileEnd h o e f = rw (f ∙ end-keeps s at (p .series) e) (at-end (reader-end s at (length (p .series)) e))
   unread (NotRead x i) h o e f =
       let g = reader-refused s at (length (p .series)) (w .inside) e in

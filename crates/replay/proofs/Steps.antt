@@ -9,8 +9,8 @@ use Rattle.state.specs.Desk.{freshDesk}
 use Rattle.state.specs.Valid.{openingOk, frameOk, validDesk}
 use Rattle.model.specs.Agreement.{Running, fresh}
 use Rattle.model.specs.Call.{Call, opens, activates, deactivates, submits, notices, assigns, shows, asks, settles, Stores, Lengths, lengthsOf, Told, told, telling}
-use Rattle.model.specs.Causes.{orIf, firstOf, openingBy, opensOk, refusal}
-use Rattle.model.specs.Plain.{openingOf, viewIn, joined, plainNext}
+use Rattle.model.specs.Causes.{terms, orIf, firstOf, openingBy, opensOk, refusal}
+use Rattle.model.specs.Plain.{workedOut, viewIn, joined, plainNext}
 use Rattle.model.specs.Step.{withBook, granting, refusalBy, decided, step}
 use Rattle.model.specs.declared.Cause.{Cause}
 use Rattle.model.specs.declared.Cause.the-variants.{NotOpen, OpenAgain, BadOpening}
@@ -18,7 +18,7 @@ use Rattle.model.specs.declared.Verdict.{Verdict}
 use Rattle.model.specs.declared.Verdict.the-variants.{Fine, Refuse}
 use Rattle.model.proofs.Invariant.{same-refusal, plain-open}
 use Rattle.model.proofs.Main.{fine}
-use Rattle.replay.specs.Feeding.{quartersFor, toldAs}
+use Rattle.replay.specs.Feeding.{toldAs}
 use Rattle.replay.specs.Play.{reach, lentTo, handed}
 use Rattle.replay.proofs.Going.{Going, unopened, opened, reach-fits, reach-whole, told-is}
 use Rattle.replay.proofs.Opened.{figuresOf, ownOf, Opened, back, start, book-fits, granted}
@@ -26,11 +26,11 @@ use Rattle.replay.proofs.Opened.{figuresOf, ownOf, Opened, back, start,
 -- an opening, or a later call: that one is lent the desk's own figures, and before the opening both desks refuse it
 data Kind : Call → Type 0 where
   opening : {q f c k : ℕ} {gs : List ℕ} → Kind (opens q f c k gs)
-  later : {c : Call} → ((n : ℕ) → quartersFor n c ≡ n) → ((n : Lengths) → refusalBy freshDesk (telling n c) ≡ Refuse NotOpen)
+  later : {c : Call} → ((n : ℕ) → terms c .quarters n ≡ n) → ((n : Lengths) → refusalBy freshDesk (telling n c) ≡ Refuse NotOpen)
       → ((n : Lengths) → refusal (viewIn []) (telling n c) ≡ Refuse NotOpen) → Kind c
 
 kind : (c : Call) → Kind c
-unfolding quartersFor refusalBy refusal firstOf fold orIf viewIn openingOf validDesk frameOk openingOk
+unfolding refusalBy refusal firstOf fold orIf viewIn workedOut validDesk frameOk openingOk
 kind (opens q f c k gs) = opening
 kind (activates p k a b e) = later (λ n. refl) (λ n. refl) (λ n. refl)
 kind (deactivates p e) = later (λ n. refl) (λ n. refl) (λ n. refl)
@@ -60,20 +60,20 @@ module _ (s : Stores) (r : Running) (h : List Told) (c : Call) where
 
 -- ---- after the opening
 
-opened-kept : (s : Stores) (r : Running) (h : List Told) (c : Call) → Opened s r h → ((n : ℕ) → quartersFor n c ≡ n) → Kept s r h c
+opened-kept : (s : Stores) (r : Running) (h : List Told) (c : Call) → Opened s r h → ((n : ℕ) → terms c .quarters n ≡ n) → Kept s r h c
 unfolding lentTo
 opened-kept s r h c G q = go (refusal (viewIn h) (told (lentTo r c))) refl
   where
     same : refusalBy (r .desk) (told (lentTo r c)) ≡ refusal (viewIn h) (told (lentTo r c))
     same = same-refusal (r .desk) (ownOf r) h (G .holds) (told (lentTo r c))
 
-    whole : reach r c ≡ figuresOf (r .desk .opening)
-    whole = reach-whole r c (q (r .desk .opening .quarters)) (book-fits s r h G)
+    whole : reach r c ≡ figuresOf (r .desk .frame .opening)
+    whole = reach-whole r c (q (r .desk .frame .opening .quarters)) (book-fits s r h G)
 
     go : (v : Verdict) → refusal (viewIn h) (told (lentTo r c)) ≡ v → Kept s r h c
     go (Refuse x) e = refused-kept s r h c x (same ∙ e) e (opened G)
     go Fine e =
-        accepted-kept s r h c (same ∙ e) e (figuresOf (r .desk .opening)) (sym whole)
+        accepted-kept s r h c (same ∙ e) e (figuresOf (r .desk .frame .opening)) (sym whole)
         (granted s r h G c (fine (r .desk) (ownOf r) h (record { call = c; stores = ownOf r }) (G .holds) (rw whole at e)))
 
 -- "open on an open desk"
@@ -87,7 +87,7 @@ again-kept s r h q f c k gs G =
 -- ---- before it
 
 first-kept : (s : Stores) (q f c k : ℕ) (gs : List ℕ) → Kept s (fresh s) [] (opens q f c k gs)
-unfolding lentTo refusalBy refusal firstOf fold orIf viewIn openingOf
+unfolding lentTo refusalBy refusal firstOf fold orIf viewIn workedOut
 first-kept s q f c k gs = go (opensOk (openingBy q f c k (told (lentTo (fresh s) call) .lengths)) gs) refl
   where
     call : Call

@@ -8,6 +8,7 @@ use Rattle.message.specs.File.{callsIn}
 use Rattle.state.specs.declared.Desk.{Desk}
 use Rattle.model.specs.Call.{Stores}
 use Rattle.model.specs.Plain.{plainEnd}
+use Rattle.replay.specs.Given.{givenIn}
 use Rattle.replay.specs.Play.{Playing, starting}
 use Rattle.replay.specs.Replay.{callsFor, toldOf, Holding, Gives, Replays}
 use Rattle.replay.specs.Run.{playingOf, Ran}
@@ -20,7 +21,7 @@ pub ran-replays : (file : List ℕ) (s : Stores) (series answers : List ℕ) (d 
 ran-replays file s series answers d after series′ answers′ n e R =
     let cs = callsFor file (length series) (length answers) in
     let same = R .played in
-    let room : length cs ≤ length answers = rw (length-take (length answers) (callsIn (length series) file .calls)) (min-le-left (length answers) (length (callsIn (length series) file .calls))) in
+    let room : length cs ≤ length answers = rw (length-take (length answers) (givenIn (callsIn (length series) file .calls))) (min-le-left (length answers) (length (givenIn (callsIn (length series) file .calls)))) in
     record {
       answered = ap (λ (p : Playing). p .answered) same ∙ answered s series answers cs;
       ending = R .ended;

@@ -2,17 +2,17 @@
 use Prim.Native.Nat.{ℕ, suc}
 use mathlib.Core.List.{List, [], _∷_, _++_}
 use lib.ListN.{length, set, take, drop}
-use Rattle.message.specs.Call.{Sent}
 use Rattle.model.specs.Agreement.{Running, fresh}
+use Rattle.model.specs.Causes.{terms}
 use Rattle.model.specs.Call.{Call, Stores, Lent, answerNumber}
 use Rattle.model.specs.Step.{Outcome, step, withBook}
 use Rattle.reader.specs.Reader.{filled}
-use Rattle.replay.specs.Feeding.{quartersFor, lentOf}
-use Rattle.replay.specs.Given.{given}
+use Rattle.replay.specs.Feeding.{lentOf}
+use Rattle.replay.specs.Given.{Given, given}
 
 -- how many figures of the book a call is lent
 unfoldable pub reach : Running → Call → ℕ
-reach r c = lentOf (length (r .stores .book)) (quartersFor (r .desk .opening .quarters) c)
+reach r c = lentOf (length (r .stores .book)) (terms c .quarters (r .desk .frame .opening .quarters))
 
 -- a call with what is lent to it: the first figures of the book, the other stores whole
 unfoldable pub lentTo : Running → Call → Lent
@@ -36,7 +36,7 @@ pub record Playing : Type 0 where
   pub answered : ℕ
 
 -- one call of the file more
-unfoldable pub played : Playing → Sent → Playing
+unfoldable pub played : Playing → Given → Playing
 played p c =
     record {
       running = handed (p .running) (given c);
@@ -46,7 +46,7 @@ played p c =
     }
 
 -- one after the other
-unfoldable pub play : Playing → List Sent → Playing
+unfoldable pub play : Playing → List Given → Playing
 play p [] = p
 play p (c ∷ l) = play (played p c) l
 

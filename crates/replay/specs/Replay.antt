@@ -10,23 +10,22 @@ use Rattle.quantity.specs.Limits.{runs, groups as groupCount, runRows, bookRows
 use Rattle.quantity.specs.Sum.{sumTo}
 use Rattle.quantity.specs.Word.{word, signed}
 use Rattle.book.specs.Place.{groupRow, rowStart}
-use Rattle.message.specs.Call.{Sent}
 use Rattle.message.specs.File.{Ending, whole, stopped, Found, callsIn}
 use Rattle.state.specs.declared.Desk.{Desk}
 use Rattle.model.specs.Call.{Stores, lengthsOf, Told, Reply, answerNumber}
 use Rattle.model.specs.Log.{logNumbers}
-use Rattle.model.specs.Plain.{openingOf, groupsOf, versionsOf, energiesOf, logOf, viewIn, figure, outside, plainReplies, plainEnd}
+use Rattle.model.specs.Plain.{openingOf, energiesOf, logOf, viewIn, figure, outside, plainReplies, plainEnd}
 use Rattle.model.specs.View.{viewOf}
 use Rattle.reader.specs.Reader.{filled}
 use Rattle.replay.specs.Feeding.{tells}
-use Rattle.replay.specs.Given.{given}
+use Rattle.replay.specs.Given.{Given, given, givenIn}
 use Rattle.replay.specs.declared.Ending.{Ending as EndingOf}
 use Rattle.replay.specs.declared.Ending.the-variants.{End, Refused, Full}
 use Rattle.replay.specs.declared.Replayed.{Replayed}
 
 -- the calls that are answered: those of the file up to its end or its first refusal, as many as there is room for
-abbrev pub callsFor : (file : List ℕ) (room answers : ℕ) → List Sent
-callsFor s room n = take n (callsIn room s .calls)
+abbrev pub callsFor : (file : List ℕ) (room answers : ℕ) → List Given
+callsFor s room n = take n (givenIn (callsIn room s .calls))
 
 -- how a replay of a file of so many bytes ends, with room for so many answers: with the file, or where the answers are full and bytes are left
 abbrev pub endingOf : (length answers : ℕ) → Found → EndingOf
@@ -37,12 +36,12 @@ endingOf n most f = endingBy (f .ending)
     endingBy (stopped x) = cond (ltb (length (f .calls)) most) (Refused x (n - length (f .left))) Full
 
 -- the series buffer after the calls: "an accepted submission fills the first places with its energies, the others stay"
-unfoldable pub seriesLeft : List ℕ → List Sent → List ℕ
+unfoldable pub seriesLeft : List ℕ → List Given → List ℕ
 seriesLeft s [] = s
 seriesLeft s (c ∷ l) = seriesLeft (filled (c .energies) s) l
 
 -- what the plain desk is told of the calls
-abbrev pub toldOf : Stores → List Sent → List Told
+abbrev pub toldOf : Stores → List Given → List Told
 toldOf s cs = tells (lengthsOf s) [] (map given cs)
 
 -- answers as numbers
@@ -58,12 +57,10 @@ joined (l ∷ ls) = l ++ joined ls
 abbrev pub over : (new old : List ℕ) → List ℕ
 over new old = new ++ drop (length new) old
 
--- a desk that holds what the plain desk works out from its list h of accepted calls: all that the table of causes looks at, versions and
--- statuses among it, the delta groups, and how many versions there are
+-- a desk that holds what the plain desk works out from its list h of accepted calls: opening, day, delta groups, points, versions with their
+-- statuses and how many there are, log rows used, settled runs
 pub record Holding (h : List Told) (d : Desk) : Type 0 where
   pub view : viewOf d ≡ viewIn h
-  pub groups : d .groups ≡ groupsOf h
-  pub count : d .count ≡ length (versionsOf h)
 
 -- the stores after the calls; s are the stores as they were lent at first. Used rows of values are the submissions' words; the book has the plain
 -- desk's figures in its first 162 × Q places, and with them the outside exchange as their sum; all else is as it was, and so is all of the book
@@ -77,7 +74,7 @@ pub record Leaving (h : List Told) (s after : Stores) : Type 0 where
   pub size : length (after .book) ≡ length (s .book)
 
 -- what calls give and leave, in the answers, in the series buffer and in the stores
-pub record Gives (cs : List Sent) (s : Stores) (buffer output : List ℕ) (after : Stores) (buffer′ output′ : List ℕ) : Type 0 where
+pub record Gives (cs : List Given) (s : Stores) (buffer output : List ℕ) (after : Stores) (buffer′ output′ : List ℕ) : Type 0 where
   pub answers : output′ ≡ over (numbersOf (plainReplies [] (toldOf s cs))) output
   pub series : buffer′ ≡ seriesLeft buffer cs
   pub stores : Leaving (plainEnd [] (toldOf s cs)) s after

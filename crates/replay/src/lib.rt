@@ -1,24 +1,12 @@
 // A whole message file through a fresh desk: each call is read and handed on, its answer kept.
-pub mod hand;
-pub mod part;
+pub mod lending;
 pub mod run;
 
 use crate::run::run_file;
 use message::FileCause;
-use quantity::PointNo;
-use quantity::Version;
 use state::Desk;
 ghost use Rattle.checks.specs.Stepped.{storesOf};
 ghost use Rattle.replay.specs.Replay.{Replays};
-
-// What one look at the desk is asked for a call: a point and a version, and for an activation its series; 0 where there is none.
-pub struct Asks {
-    pub point: PointNo,
-    pub version: Version,
-    pub kind: u64,
-    pub area: u64,
-    pub partner: u64,
-}
 
 // How a replay ends.
 pub enum Ending {

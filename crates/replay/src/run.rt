@@ -1,7 +1,7 @@
 // The calls of a file on a fresh desk, one after the other.
 use crate::Ending;
 use crate::Replayed;
-use crate::part::hand_part;
+use crate::lending::lend_call;
 use checks::numbers::number_of;
 use effect::Tables;
 use effect::settling::settled_versions;
@@ -22,7 +22,7 @@ fn ended_by(step: Step) -> Ending
 {
     match step {
         Step::Call {
-            kind: _,
+            call: _,
             count: _,
             next: _,
         } => Ending::Full,
@@ -42,6 +42,7 @@ fn ended_at(at: usize, length: usize) -> Ending
     }
 }
 
+// The effect is carried out as `effect::effects::changed` does, here on the desk that is held: a desk that is handed on and given back is copied.
 // While there is room for an answer the next call is read and handed on with its energies. Without room the next call is not looked at.
 pub fn run_file(
     file: &[u8],
@@ -59,23 +60,20 @@ pub fn run_file(
     while answered < answers.len() {
         let reading = read_call(file, at, series);
         let step = reading.step;
-        let fields = reading.fields;
-        let Step::Call { kind, count, next } = step else {
+        let groups = reading.groups;
+        let Step::Call { call, count, next } = step else {
             return Replayed {
                 answered,
                 ending: ended_by(step),
                 desk,
             };
         };
-        let out = hand_part(desk, kind, fields, &series[0..count], values, book, log);
+        let out = lend_call(desk, call, groups, &series[0..count], values, book, log);
         let answer = out.answer;
         answers[answered] = number_of(answer);
         let effect = out.effect;
         let tables = effect.tables;
-        let opening = effect.opening;
-        let day = effect.day;
-        let groups = effect.groups;
-        let settled = effect.settled;
+        let frame = effect.frame;
         match tables {
             Tables::Same => {}
             Tables::Fresh => {
@@ -89,15 +87,10 @@ pub fn run_file(
             }
             Tables::Settled { run } => {
                 let versions = desk.versions;
-                desk.versions = settled_versions(versions, desk.count, run);
+                desk.versions = settled_versions(versions, desk.frame.count, run);
             }
         }
-        desk.opening = opening;
-        desk.day = day;
-        desk.groups = groups;
-        desk.count = effect.count;
-        desk.used = effect.used;
-        desk.settled = settled;
+        desk.frame = frame;
         answered += 1;
         at = next;
     }

@@ -21,8 +21,8 @@ use Rattle.replay.proofs.run.run_file.Tie as tie
 step-read : {r q : Reading} → r ≡ q → q .step ≡ r .step
 step-read e = rw e
 
-fields-read : {r q : Reading} → r ≡ q → r .fields ≡ q .fields
-fields-read e = rw e
+groups-read : {r q : Reading} → r ≡ q → r .groups ≡ q .groups
+groups-read e = rw e
 
 abbrev Inv-loop : tie.InvT-loop
 Inv-loop file values₀ book₀ log₀ series₀ answers₀ desk₀ at₀ answered₀ values book log series answers desk at answered =
@@ -31,6 +31,13 @@ Inv-loop file values₀ book₀ log₀ series₀ answers₀ desk₀ at₀ answer
 abbrev μ-loop : tie.MeasureT-loop
 μ-loop file values₀ book₀ log₀ series₀ answers₀ desk₀ at₀ answered₀ values book log series answers desk at answered =
     length answers₀ - answered
+
+-- a record is put at a place of its table
+point-place : (c : tie.After-tables Inv-loop μ-loop) → c .tables .given .0 .0 < 256
+point-place c = rw (c .tables .given .1) at (c .before .before .before .before .before .before .before .before .before .before .before .lend-call .ensures .0)
+
+version-place : (c : tie.After-tables2 Inv-loop μ-loop) → c .tables2 .given .0 .0 < 512
+version-place c = rw (c .tables2 .given .1) at (c .before .before .before .before .before .before .before .before .before .before .before .lend-call .ensures .0)
 
 fresh-desk-requires : tie.Need-fresh-desk-requires Inv-loop μ-loop
 fresh-desk-requires c κs = search needs
@@ -65,24 +72,24 @@ same-length-5 c = search needs
 returns : tie.Need-returns Inv-loop μ-loop
 returns c =
     let read = c .before .before .before .before .before in
-    let turn = read .before .before in
+    let turn = c .before .before .before .before .before .before .before in
     let g = turn .before .loop .inv in
     rw (c .ended-by .ensures)
     (unread g _ (omega (arith, turn .loop-test .taken, g .sized .answers)) (c .before .match .keys2) (step-read (read .read-call .ensures .0)) (read .read-call .ensures .1))
 
-sub-hand-part : tie.Need-sub-hand-part Inv-loop μ-loop
-sub-hand-part c = search needs
+sub-lend-call : tie.Need-sub-lend-call Inv-loop μ-loop
+sub-lend-call c = search needs
 
-part-hand-part-start : tie.Need-part-hand-part-start Inv-loop μ-loop
-part-hand-part-start c = search needs
+part-lend-call-start : tie.Need-part-lend-call-start Inv-loop μ-loop
+part-lend-call-start c = search needs
 
-part-hand-part-end : tie.Need-part-hand-part-end Inv-loop μ-loop
-part-hand-part-end c =
+part-lend-call-end : tie.Need-part-lend-call-end Inv-loop μ-loop
+part-lend-call-end c =
     let read = c .before .before .before .before .before .before .before in
-    energies-inside (read .before .before .before .loop .inv) (step-read (read .read-call .ensures .0) ∙ c .before .before .step .given .1) (read .read-call .ensures .1)
+    energies-inside (c .before .before .before .before .before .before .before .before .before .before .loop .inv) (step-read (read .read-call .ensures .0) ∙ c .before .before .step .given .1) (read .read-call .ensures .1)
 
-hand-part-requires : tie.Need-hand-part-requires Inv-loop μ-loop
-hand-part-requires c κs = search needs
+lend-call-requires : tie.Need-lend-call-requires Inv-loop μ-loop
+lend-call-requires c κs = search needs
 
 number-of-requires : tie.Need-number-of-requires Inv-loop μ-loop
 number-of-requires c κs = search needs
@@ -96,13 +103,6 @@ slice-write-answers : tie.Need-slice-write-answers Inv-loop μ-loop
 slice-write-answers c =
     let turn = c .before .before .before .before .before .before .before .before .before .before .before .before .before .before .before .before .before .before .before .before .before in
     omega (arith, turn .loop-test .taken, turn .before .loop .inv .sized .answers, turn .before .before .before .before .before .before .before .before .before .good .1 .1 .1 .1 .1 .0)
-
--- a record is put at a place of its table
-point-place : (c : tie.After-tables Inv-loop μ-loop) → c .tables .given .0 .0 < 256
-point-place c = rw (c .tables .given .1) at (c .before .before .before .before .before .before .before .before .before .before .before .before .before .before .hand-part .ensures .0)
-
-version-place : (c : tie.After-tables2 Inv-loop μ-loop) → c .tables2 .given .0 .0 < 512
-version-place c = rw (c .tables2 .given .1) at (c .before .before .before .before .before .before .before .before .before .before .before .before .before .before .hand-part .ensures .0)
 
 enum-told : tie.Need-enum-told Inv-loop μ-loop
 enum-told c = search needs
@@ -136,34 +136,32 @@ enum-known-tables-3 c = search needs
 
 settled-versions-requires : tie.Need-settled-versions-requires Inv-loop μ-loop
 settled-versions-requires c κs =
-    let d = c .before .before .before .before .before .before .before .before .before .before .before .before .before .before .before .before .before .before .before .before .before .before .before .before .before .before .before .before .before .before .before .loop .desk in
-    let v = sound d (rw (c .before .before .tables3 .given .1) at (c .before .before .before .before .before .before .before .before .before .before .before .before .before .before .before .before .hand-part .ensures .0)) in
+    let d = c .before .before .before .before .before .before .before .before .before .before .before .before .before .before .before .before .before .before .before .before .before .before .before .before .before .before .before .before .loop .desk in
+    let v = sound d (rw (c .before .before .tables3 .given .1) at (c .before .before .before .before .before .before .before .before .before .before .before .before .before .lend-call .ensures .0)) in
     (v .count, points-in d v)
 
 add-answered : tie.Need-add-answered Inv-loop μ-loop
 add-answered c =
-    let turn = c .before .before .before .before .before .before .before .before .before .before .before .before .before .before .before .before .before .before .before .before .before .before .before .before .before .before .before in
+    let turn = c .before .before .before .before .before .before .before .before .before .before .before .before .before .before .before .before .before .before .before .before .before .before .before .before in
     omega (arith, turn .loop-test .taken, turn .before .loop .inv .sized .answers, turn .before .before .before .before .before .before .before .before .before .good .1 .1 .1 .1 .1 .0)
 
 loop-less : tie.Need-loop-less Inv-loop μ-loop
 loop-less c =
-    let turn = c .before .before .before .before .before .before .before .before .before .before .before .before .before .before .before .before .before .before .before .before .before .before .before .before .before .before .before in
+    let turn = c .before .before .before .before .before .before .before .before .before .before .before .before .before .before .before .before .before .before .before .before .before .before .before .before in
     omega (arith, turn .loop-test .taken, turn .before .loop .inv .sized .answers, turn .before .before .before .before .before .before .before .before .before .good .1 .1 .1 .1 .1 .0)
 
 loop-again : tie.Need-loop-again Inv-loop μ-loop
 loop-again c =
-    let put = c .before .before .before .before .before in
-    let handed = put .before .before .before .before .before .before .before .before in
-    let told = handed .before .before .before .before .before .before .before in
-    let read = told .before .before .before .before .before in
-    let turn = read .before .before in
+    let handed = c .before .before .before .before .before .before .before .before .before .before in
+    let read = c .before .before .before .before .before .before .before .before .before .before .before .before .before .before .before .before .before .before .before .before .before .before in
+    let turn = c .before .before .before .before .before .before .before .before .before .before .before .before .before .before .before .before .before .before .before .before .before .before .before .before in
     let g = turn .before .loop .inv in
     let d = turn .before .loop .desk in
-    let e = handed .hand-part .result .effect in
+    let e = handed .lend-call .result .effect in
     let tables : (c .match2 .desk .points ≡ pointsBy d (e .tables)) × (c .match2 .desk .versions ≡ versionsBy d (e .tables)) =
     ⊎-elim (λ w. rw (w .2, w .1 .given .1) (refl, refl)) (⊎-elim (λ w. rw (w .3, w .2 .ensures, w .1 .given .1) (refl, refl)) (⊎-elim (λ w. rw (w .3, w .1 .given .1) (refl, refl)) (⊎-elim (λ w. rw (w .3, w .1 .given .1) (refl, refl)) (λ w. rw (w .5, w .4 .ensures, w .1 .given .1) (refl, refl))))) (c .match2 .came) in
-    again g (omega (arith, turn .loop-test .taken, g .sized .answers)) (step-read (read .read-call .ensures .0) ∙ told .step .given .1) (fields-read (read .read-call .ensures .0)) (read .read-call .ensures .1) (handed-as (applied d (c .match2 .desk) e tables) (handed .hand-part .ensures .1)) (put .before .number-of .ensures)
-    (record { values = put .before .before .before .before .before .before .before .values .given; book = put .before .before .before .before .before .book .given; log = put .before .before .before .log .given; series = told .before .before .before .before .series .given; answers = simp length-set })
+    again g (omega (arith, turn .loop-test .taken, g .sized .answers)) (step-read (read .read-call .ensures .0) ∙ c .before .before .before .before .before .before .before .before .before .before .before .before .before .before .before .before .before .step .given .1) (groups-read (read .read-call .ensures .0)) (read .read-call .ensures .1) (handed-as (applied d (c .match2 .desk) e tables) (handed .lend-call .ensures .1)) (c .before .before .before .number-of .ensures)
+    (record { values = c .before .before .before .before .before .before .before .before .before .values .given; book = c .before .before .before .before .before .before .before .book .given; log = c .before .before .before .before .before .log .given; series = c .before .before .before .before .before .before .before .before .before .before .before .before .before .before .before .before .before .before .before .before .before .series .given; answers = simp length-set })
 
 ended-at-requires : tie.Need-ended-at-requires Inv-loop μ-loop
 ended-at-requires c κs = search needs
@@ -205,10 +203,10 @@ run-file-spec =
     same-length-4
     same-length-5
     returns
-    sub-hand-part
-    part-hand-part-start
-    part-hand-part-end
-    hand-part-requires
+    sub-lend-call
+    part-lend-call-start
+    part-lend-call-end
+    lend-call-requires
     number-of-requires
     mul-answers
     slice-write-answers

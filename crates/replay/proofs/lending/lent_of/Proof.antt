@@ -5,8 +5,11 @@ use borrow.Author.Tests.{le-leb, lt-leb}
 use Rattle.quantity.specs.Limits.{bookRows}
 use Rattle.replay.specs.Feeding.{lentOf}
 use borrow.Author.Needs.{needs}
-use Rattle.replay.proofs.part.lent_of.Statement.{statement}
-use Rattle.replay.proofs.part.lent_of.Tie as tie
+use Rattle.replay.proofs.lending.lent_of.Statement.{statement}
+use Rattle.replay.proofs.lending.lent_of.Tie as tie
+
+div-most : tie.Need-div-most
+div-most c = search needs
 
 mul-result : tie.Need-mul-result
 mul-result c = search needs
@@ -20,4 +23,4 @@ unfolding lentOf
 returns-2 c = rw (lt-leb (bookRows * c .before .args .q) (c .before .args .book) (omega arith))
 
 pub lent-of-spec : {M : Type 1} → statement M
-lent-of-spec = tie.close (tie.spec mul-result returns returns-2)
+lent-of-spec = tie.close (tie.spec div-most mul-result returns returns-2)

@@ -1,0 +1,64 @@
+-- `lend_call` meets its contract. Assumes nothing.
+use mathlib.Core.List.{map}
+use Rattle.quantity.specs.Word.{signed}
+use Rattle.replay.proofs.Parts.{lent-inside, handed-by}
+use borrow.Author.Needs.{needs}
+use Rattle.replay.proofs.lending.lend_call.Statement.{statement}
+use Rattle.replay.proofs.lending.lend_call.Tie as tie
+
+asks-of-requires : tie.Need-asks-of-requires
+asks-of-requires c κs = search needs
+
+look-requires : tie.Need-look-requires
+look-requires c κs = search needs
+
+quarters-of-requires : tie.Need-quarters-of-requires
+quarters-of-requires c κs = search needs
+
+lent-of-requires : tie.Need-lent-of-requires
+lent-of-requires c κs = search needs
+
+sub-decide : tie.Need-sub-decide
+sub-decide c = search needs
+
+part-decide-start : tie.Need-part-decide-start
+part-decide-start c = search needs
+
+part-decide-end : tie.Need-part-decide-end
+part-decide-end c = rw (c .before .lent-of .ensures) (lent-inside _ _)
+
+decide-requires : tie.Need-decide-requires
+decide-requires c κs =
+    let a = c .before .before .before .before .before .before .before .before .before .before .before .before .before .args in
+    rw (c .before .before .before .before .before .before .before .before .asks-of .ensures (a .groups) (map signed (a .series .now))) at (c .before .before .before .before .before .before .before .look .ensures)
+
+same-length : tie.Need-same-length
+same-length c = search needs
+
+same-length-2 : tie.Need-same-length-2
+same-length-2 c = search needs
+
+same-length-3 : tie.Need-same-length-3
+same-length-3 c = search needs
+
+returns : tie.Need-returns
+returns c =
+    let h = c .before .before .before .before .before .before .decide .ensures in
+    (h .0, handed-by _ _ (c .before .before .before .before .before .before .before .before .before .before .lent-of .ensures) (c .before .before .before .before .before .before .before .before .before .before .before .quarters-of .ensures _ _) (h .1))
+
+pub lend-call-spec : {M : Type 1} → statement M
+lend-call-spec =
+    tie.close
+    (tie.spec
+    asks-of-requires
+    look-requires
+    quarters-of-requires
+    lent-of-requires
+    sub-decide
+    part-decide-start
+    part-decide-end
+    decide-requires
+    same-length
+    same-length-2
+    same-length-3
+    returns)

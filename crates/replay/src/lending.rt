@@ -1,0 +1,48 @@
+// A call on the desk, lent the part of the book that is its own.
+use checks::Decided;
+use checks::looks::look;
+use dispatch::asks::asks_of;
+use dispatch::asks::quarters_of;
+use dispatch::decisions::decide;
+use message::DeskCall;
+use quantity::limits::BOOK_ROWS;
+use quantity::limits::DELTAS;
+use state::Desk;
+ghost use mathlib.Core.Path.{_≡_};
+ghost use mathlib.Core.List.{map};
+ghost use Rattle.quantity.specs.Word.{signed};
+ghost use Rattle.effect.specs.Effect.{changedBy, Fits};
+ghost use Rattle.checks.specs.Stepped.{storesOf};
+ghost use Rattle.dispatch.specs.Asked.{asked};
+ghost use Rattle.replay.specs.Feeding.{lentOf};
+ghost use Rattle.replay.specs.Run.{runningOf, Handed};
+
+// The first 162 × q figures; all of them where there are not so many.
+pub fn lent_of(book: usize, q: u64) -> usize
+    ensures { λ r. ⌜ r ≡ lentOf book q ⌝ }
+{
+    let most = book / BOOK_ROWS as usize;
+    if q <= most as u64 {
+        return BOOK_ROWS as usize * q as usize;
+    }
+    book
+}
+
+// One look at the desk, then the call's decision: it is lent the first figures of the book, and the other stores whole.
+pub fn lend_call(
+    d: Desk,
+    call: DeskCall,
+    groups: [u64; DELTAS as usize],
+    series: &[u64],
+    values: &mut [u64],
+    book: &mut [u64],
+    log: &mut [u64],
+) -> Decided
+    ensures { λ r. ⌜ Fits d (r .effect) × Handed (runningOf d (storesOf (now (values .entry)) (now (book .entry)) (now (log .entry)))) (asked call groups (map signed (now (series .entry)))) (r .answer) (runningOf (changedBy d (r .effect)) (storesOf (now (values .exit)) (now (book .exit)) (now (log .exit)))) ⌝ }
+{
+    let l = look(d, asks_of(call));
+    let frame = d.frame;
+    let opening = frame.opening;
+    let n = lent_of(book.len(), quarters_of(call, opening.quarters));
+    decide(d, l, call, groups, series, values, &mut book[0..n], log)
+}
