@@ -1,3 +1,0 @@
-mod Pages
-mod Texts
-mod Totals

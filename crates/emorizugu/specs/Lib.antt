@@ -1,4 +1,0 @@
-pub mod Figures
-pub mod Line
-pub mod Page
-pub mod Text

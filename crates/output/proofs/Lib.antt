@@ -1,0 +1,5 @@
+pub mod Feeds
+pub mod Fills
+pub mod Main
+pub mod Prints
+pub mod Totals

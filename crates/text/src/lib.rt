@@ -1,0 +1,3 @@
+// Text in a buffer: numbers, figures, and the lines of the desk program.
+pub mod field;
+pub mod line;
