@@ -1,3 +1,4 @@
+pub mod Answers
 pub mod Feeds
 pub mod Fills
 pub mod Main

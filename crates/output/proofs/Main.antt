@@ -6,7 +6,7 @@ use native.Mathlib.Omega.{arith}
 use borrow.Author.Tests.{le-leb, lt-ltb}
 use lib.IntN.{ℤ, natAbs}
 use lib.ListN.{length, getD, take, drop, length-map}
-use lib.Seq.{take-all, take-append-seam}
+use lib.Seq.{getD-take, take-all, take-append-seam}
 use Rattle.quantity.specs.Limits.{runs, groups, points, mostEnergy}
 use Rattle.quantity.specs.Sum.{sumTo}
 use Rattle.quantity.specs.Word.{signed, word}
@@ -29,8 +29,9 @@ use Rattle.text.specs.Line.{totalLine}
 use Rattle.text.specs.Text.{eachTo}
 use Rattle.text.proofs.Texts.{each-same}
 use Rattle.output.specs.Figures.{IsPlace, Summed, readOf, totalOf}
-use Rattle.output.specs.Fill.{Sized, endedText}
+use Rattle.output.specs.Fill.{mostCalls, Short, Sized, endedText}
 use Rattle.output.specs.Output.{fileSize, seriesSize, programQuarters, lent, foundIn, toldIn, answersText, groupText, quarterText, monthText, figuresText, endText, textOf}
+use Rattle.output.proofs.Answers.{answers-short}
 use Rattle.output.proofs.Feeds.{few-quarters, outside-small}
 use Rattle.output.proofs.Totals.{total-word}
 
@@ -124,7 +125,7 @@ module _ (file : List ℕ) (s : Stores) (buffer output : List ℕ) (r : Replayed
         (book-summed list s after leaving (λ run q. outside-small lent (map given (foundIn file .calls)) run q) fits)
 
     -- how many answers there are
-    pub answered-few : r .answered ≤ 21845
+    pub answered-few : r .answered ≤ mostCalls
     answered-few = omega (arith, R .answered, ap (λ (l : List Sent). length l) calls-all, few-calls seriesSize file small)
 
     pub answers-are : take (r .answered) output′ ≡ numbersOf (plainReplies [] (toldIn file))
@@ -133,6 +134,10 @@ module _ (file : List ℕ) (s : Stores) (buffer output : List ℕ) (r : Replayed
         let n : r .answered ≡ length l = R .answered ∙ ap (λ (x : List Sent). length x) calls-all ∙ sym (length-map (foundIn file .calls) given) ∙ sym (length-answers lent [] (map given (foundIn file .calls))) in
         ap₂ take n (R .gives .answers ∙ ap (λ (x : List Told). over (numbersOf (plainReplies [] x)) output) told-all)
         ∙ take-append-seam l (drop (length l) output)
+
+    pub short : Short output′ (r .answered)
+    short i less =
+        rw (← getD-take (r .answered) output′ i 0 less, answers-are) (answers-short (plainReplies [] (toldIn file)) i)
 
     ending-is : r .ending ≡ endingOf (length file) (length output) (foundIn file)
     ending-is = R .ending ∙ ap (λ (n : ℕ). endingOf (length file) (length output) (callsIn n file)) (Z .series)

@@ -1,11 +1,11 @@
 -- A buffer filled with the output.
-use Prim.Native.Nat.{ℕ, _+_, _*_}
+use Prim.Native.Nat.{ℕ, _+_, _*_, _<_}
 use mathlib.Core.Path.{_≡_}
 use mathlib.Core.Bool.{cond}
 use mathlib.Core.List.{List, []}
 use lib.Dec.{leb}
 use lib.IntN.{ℤ}
-use lib.ListN.{length}
+use lib.ListN.{length, getD}
 use Rattle.quantity.specs.Limits.{runs, groups}
 use Rattle.message.specs.Cause.{causeNumber}
 use Rattle.replay.specs.Replay.{over}
@@ -20,10 +20,15 @@ use Rattle.output.specs.declared.Filled.the-variants.{Length, TooSmall}
 abbrev pub mostCalls : ℕ
 mostCalls = 21845
 
--- the bytes of an answer's line at most, of a group's and of a sum's
+-- the bytes of a call's line at most: a number below 100,000 and an answer below 100
 abbrev pub answerRoom : ℕ
-answerRoom = 42
+answerRoom = 9
 
+-- of a line of two numbers, whatever they are
+abbrev pub lineRoom : ℕ
+lineRoom = 42
+
+-- of a group's line, and of a sum's
 abbrev pub groupRoom : ℕ
 groupRoom = 87
 
@@ -41,6 +46,10 @@ figuresRoom = runs * (quarterRoom * programQuarters)
 -- a buffer of so many bytes is enough for any input
 abbrev pub most : ℕ
 most = answerRoom * mostCalls + figuresRoom
+
+-- the first n answers are below 100
+abbrev pub Short : (answers : List ℕ) (n : ℕ) → Type 0
+Short l n = (i : ℕ) → i < n → getD l i 0 < 100
 
 -- stores of the program's sizes, its series buffer, and answers: one more than 65,536 bytes hold calls
 pub record Sized (v b l s a : List ℕ) : Type 0 where

@@ -12,7 +12,7 @@ ghost use Rattle.output.specs.Fill.{most, Sized, Fills};
 ghost use Rattle.output.specs.Output.{fileSize, textOf};
 
 // A buffer of so many bytes is enough for any input.
-pub const MOST: usize = 1_007_634;
+pub const MOST: usize = 286_749;
 
 // The desk reads so many bytes of its input.
 pub const FILE: usize = 65_536;

@@ -15,12 +15,12 @@ ghost use Rattle.quantity.specs.Limits.{groups, runs};
 ghost use Rattle.quantity.specs.Word.{signed};
 ghost use Rattle.text.specs.Text.{Put, eachTo};
 ghost use Rattle.output.specs.Figures.{IsPlace, Summed, readOf};
-ghost use Rattle.output.specs.Fill.{answerRoom, groupRoom, quarterRoom, figuresRoom, endedText};
+ghost use Rattle.output.specs.Fill.{mostCalls, answerRoom, lineRoom, Short, groupRoom, quarterRoom, figuresRoom, endedText};
 ghost use Rattle.output.specs.Output.{programQuarters, answersText, groupText, quarterText, monthText};
 
 // The number of each call, from 1, and its answer, of the first n.
 pub fn put_answers(out: &mut [u8], at: usize, answers: &[u64], n: usize) -> usize
-    requires { ⌜ (n ≤ length (now answers)) × (at + answerRoom * n ≤ length (now out)) ⌝ }
+    requires { ⌜ (n ≤ length (now answers)) × (n ≤ mostCalls) × Short (now answers) n × (at + answerRoom * n + lineRoom ≤ length (now out)) ⌝ }
     ensures { λ r. ⌜ Put (answerRoom * n) at (answersText (take n (now (answers .entry)))) (now (out .entry)) (now (out .exit)) r ⌝ }
 {
     let mut next = at;

@@ -1,19 +1,21 @@
 -- Laws of the text in a line. Assumes nothing.
 use Prim.Native.Nat.{ℕ, zero, suc, _+_, _-_, _*_, _/_, _%_, _^_, _≤_, _<_}
 use mathlib.Core.Path.{_≡_, refl, sym, ap, _∙_}
+use mathlib.Core.Bool.{Bool, true, false, cond}
 use mathlib.Core.List.{List, [], _∷_, _++_, append-assoc, append-nil}
 use native.Mathlib.Nat.{mul-suc, pow-suc, one-le-pow, pow-le-pow-right}
 use native.Mathlib.Decide.{decLt}
 use native.Mathlib.Omega.{arith}
 use native.Mathlib.Numerals.{add-one}
-use borrow.Author.Tests.{lt-ltb, le-ltb}
-use lib.Dec.{lit<}
+use borrow.Author.Tests.{lt-ltb, le-ltb, ltb-false}
+use lib.Dec.{lit<, ltb}
 use lib.ListN.{length, take, drop, length-append, take-append-drop}
 use lib.Seq.{length-take-le, take-length, take-at, drop-at, drop-append-le, drop-append-add, drop-drop}
 use mir.Syntax.{w64}
 use mir.Facts.{toZ-pos, toZ-neg}
 use Rattle.io.specs.Digits.{digits, glyph, Fewest}
 use Rattle.quantity.specs.Word.{signed}
+use Rattle.text.specs.Line.{answerLine}
 use Rattle.text.specs.Text.{Put, digit, minus, decimal, decimalIn, signedText, eachTo}
 
 glyph-digit : (d : ℕ) → d < 10 → glyph d ≡ digit d
@@ -60,6 +62,25 @@ few-digits n k h f = by (decLt 20 k)
         let wide : 20 ≤ k - 1 = omega arith in
         let high : 10 ^ 20 ≤ 10 ^ (k - 1) = pow-le-pow-right (lit< tt) wide in
         absurd (omega arith)
+
+-- a number below 10^k has at most k digits
+pub decimal-few : (k m n : ℕ) → n < 10 ^ suc k → length (decimalIn m n) ≤ suc k
+unfolding decimalIn
+decimal-few k zero n h = omega arith
+decimal-few k (suc m) n h = by k (ltb n 10) refl h (λ j l. decimal-few j m (n / 10) l)
+  where
+    by : (k : ℕ) (t : Bool) → ltb n 10 ≡ t → n < 10 ^ suc k → ((j : ℕ) → n / 10 < 10 ^ suc j → length (decimalIn m (n / 10)) ≤ suc j)
+        → length (cond t (digit n ∷ []) (decimalIn m (n / 10) ++ (digit (n % 10) ∷ []))) ≤ suc k
+    by k true e l ih = omega arith
+    by zero false e l ih = absurd (omega (arith, ltb-false n 10 e))
+    by (suc j) false e l ih =
+        let less : n / 10 < 10 ^ suc j = omega (arith, pow-suc 10 (suc j)) in
+        rw length-append (omega (arith, ih j less))
+
+-- the line of a call's number below 100,000 and an answer below 100
+pub answer-few : (n a : ℕ) → n < 100000 → a < 100 → length (answerLine n a) ≤ 9
+answer-few n a h k =
+    simp length-append (omega (arith, decimal-few 4 n n h, decimal-few 1 a a k))
 
 -- a text copied into the line from a place on
 pub copied : (l s part rest tail : List ℕ) (at k : ℕ) → at ≤ length l → length s ≡ k → part ≡ take (length s) s ++ rest
@@ -113,6 +134,12 @@ put-then {a = a} {b = b} {c = c} {t = t} {u = u} {l = l} {l′ = l′} x y =
 pub put-as : {m p a c : ℕ} {t u l l′ : List ℕ} → Put m a t l l′ c → m ≤ p → t ≡ u → Put p a u l l′ c
 put-as {a = a} {l = l} x h e =
     record { holds = x .holds ∙ ap (λ (s : List ℕ). take a l ++ s) e; rest = x .rest; from = x .from; few = omega arith }
+
+-- within as many bytes as the text has, where it ends within the buffer
+pub put-few : {m p a c : ℕ} {t l l′ : List ℕ} → Put m a t l l′ c → a ≤ length l → c ≤ length l′ → length t ≤ p → Put p a t l l′ c
+put-few {a = a} {c = c} {t = t} {l = l} {l′ = l′} x low high few =
+    let n : c ≡ a + length t = sym (length-take-le c l′ high) ∙ ap (λ (s : List ℕ). length s) (x .holds) ∙ length-append (take a l) t ∙ ap (λ (k : ℕ). k + length t) (length-take-le a l low) in
+    record { holds = x .holds; rest = x .rest; from = x .from; few = omega arith }
 
 -- the text of one number more, each in at most m bytes
 pub put-each : {a b c : ℕ} {l l′ l″ : List ℕ} (m n : ℕ) (f : ℕ → List ℕ) → Put (m * n) a (eachTo n f) l l′ b → Put m b (f (n + 1)) l′ l″ c → Put (m * (n + 1)) a (eachTo (n + 1) f) l l″ c

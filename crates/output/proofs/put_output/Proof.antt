@@ -1,7 +1,7 @@
 -- `put_output` meets its contract. Assumes nothing.
 use native.Mathlib.Omega.{arith}
 use Rattle.text.proofs.Texts.{put-then, put-as}
-use Rattle.output.proofs.Main.{answered-few, quarters-few, summed, text-is}
+use Rattle.output.proofs.Main.{answered-few, short, quarters-few, summed, text-is}
 use borrow.Author.Needs.{needs}
 use Rattle.output.proofs.put_output.Statement.{statement}
 use Rattle.output.proofs.put_output.Tie as tie
@@ -12,8 +12,13 @@ replay-requires c κs = search needs
 put-answers-requires : tie.Need-put-answers-requires
 put-answers-requires c κs =
     let p = c .before .before .before .before .before .before .before .before .before .before .before .before .before .before .before .before .before .before .before .before .before .before .before .before .before .before .before .pre in
-    let few = answered-few _ _ _ _ _ _ _ _ (p .0) (p .2) (c .before .before .before .before .before .before .before .before .before .before .before .before .before .before .replay .ensures) in
-    (omega (arith, few, c .before .before .before .before .before .before .before .before .before .before .before .before .before .before .replay .kept .1 .1 .1 .1 .1 .0, p .2 .answers), omega (arith, few, p .1))
+    let R = c .before .before .before .before .before .before .before .before .before .before .before .before .before .before .replay .ensures in
+    let few = answered-few _ _ _ _ _ _ _ _ (p .0) (p .2) R in (
+      omega (arith, few, c .before .before .before .before .before .before .before .before .before .before .before .before .before .before .replay .kept .1 .1 .1 .1 .1 .0, p .2 .answers),
+      few,
+      short _ _ _ _ _ _ _ _ (p .0) (p .2) R,
+      omega (arith, few, p .1),
+    )
 
 put-ending-requires : tie.Need-put-ending-requires
 put-ending-requires c κs =

@@ -1,9 +1,10 @@
 -- `put_answers` meets its contract. Assumes nothing.
 use Prim.Native.Nat.{_*_, _-_, _≤_}
 use mathlib.Core.Path.{_≡_}
+use native.Mathlib.Omega.{arith}
 use lib.ListN.{length, take}
 use Rattle.text.specs.Text.{Put, eachTo}
-use Rattle.text.proofs.Texts.{put-as, put-each, put-first}
+use Rattle.text.proofs.Texts.{put-as, put-few, put-each, put-first, answer-few}
 use Rattle.output.specs.Fill.{answerRoom}
 use Rattle.output.proofs.Prints.{answerAt, answer-next, answers-all}
 use borrow.Author.Needs.{needs}
@@ -36,8 +37,12 @@ loop-less c = search needs
 
 loop-again : tie.Need-loop-again Inv-loop μ-loop
 loop-again c =
-    let a = c .before .before .before .before .before .before .before .before .before .args in (
-      put-each answerRoom _ _ (c .before .before .before .before .before .before .loop .inv .0) (put-as (c .before .before .answer-line .ensures) (search needs) (answer-next (a .answers .now) (a .n) _ (c .before .before .before .before .before .loop-test .taken))),
+    let a = c .before .before .before .before .before .before .before .before .before .args in
+    let p = c .before .before .before .before .before .before .before .before .before .pre in
+    let i = c .before .before .before .before .before .before .loop .i in
+    let less = c .before .before .before .before .before .loop-test .taken in
+    let line = put-few (c .before .before .answer-line .ensures) (omega arith) (omega arith) (answer-few _ _ (omega arith) (p .2 i less)) in (
+      put-each answerRoom _ _ (c .before .before .before .before .before .before .loop .inv .0) (put-as {p = answerRoom} line (search needs) (answer-next (a .answers .now) (a .n) i less)),
       search needs,
       search needs,
     )
