@@ -1,17 +1,17 @@
 -- What stays true of the plain desk's list as it is fed the calls of a file, with the program's store lengths: Q is at most 8, and every energy
 -- is in range. Assumes nothing.
 use Prim.Native.Nat.{ℕ, _*_, _≤_, _<_}
-use mathlib.Core.Path.{_≡_, refl, sym, ap, _∙_}
-use mathlib.Core.Bool.{Bool, true, false, cond, not, _&&_, false≢true}
-use mathlib.Core.List.{List, [], _∷_, _++_}
+use mathlib.Core.Path.{_≡_, refl}
+use mathlib.Core.Bool.{Bool, true, false, cond}
+use mathlib.Core.List.{List, [], _∷_}
 use native.Mathlib.Omega.{arith}
-use borrow.Author.Tests.{eqb-true, leb-true, leb-false, not-false}
+use borrow.Author.Tests.{eqb-true, leb-true, not-false}
 use lib.Dec.{leb, eqb}
 use lib.IntN.{ℤ, pos, natAbs}
 use lib.ListN.{length, getD}
 use Rattle.quantity.specs.Limits.{points, mostEnergy, bookRows, quartersOk, deadlinesOk, pointOk, versionOk, dayOk, energyOk}
 use Rattle.quantity.specs.Lists.{all, fold}
-use Rattle.quantity.proofs.Lists.{all-append, all-at}
+use Rattle.quantity.proofs.Lists.{all-at}
 use Rattle.quantity.proofs.Sums.{sum-small}
 use Rattle.quantity.proofs.Tests.{and-left, and-right, by-test}
 use Rattle.state.specs.Desk.{isOpen}

@@ -9,12 +9,11 @@ use lib.ListN.{length, getD, take, drop, length-map}
 use lib.Seq.{getD-take, take-all, take-append-seam}
 use Rattle.quantity.specs.Limits.{runs, groups, points, mostEnergy}
 use Rattle.quantity.specs.Sum.{sumTo}
-use Rattle.quantity.specs.Word.{signed, word}
+use Rattle.quantity.specs.Word.{signed}
 use Rattle.quantity.proofs.Sums.{sum-same}
 use Rattle.quantity.proofs.Words.{signed-word, small-fits}
 use Rattle.book.specs.Place.{groupRow}
 use Rattle.message.specs.Call.{Sent}
-use Rattle.message.specs.Cause.{causeNumber}
 use Rattle.message.specs.File.{Ending, whole, stopped, Found, callsIn}
 use Rattle.message.proofs.Files.{few-calls}
 use Rattle.model.specs.Call.{Call, Stores, Lengths, lengthsOf, Told}
@@ -28,8 +27,9 @@ use Rattle.replay.specs.declared.Replayed.{Replayed}
 use Rattle.text.specs.Line.{totalLine}
 use Rattle.text.specs.Text.{eachTo}
 use Rattle.text.proofs.Texts.{each-same}
-use Rattle.output.specs.Figures.{IsPlace, Summed, readOf, totalOf}
-use Rattle.output.specs.Fill.{mostCalls, Short, Sized, endedText}
+use Rattle.output.specs.Figures.{Summed, readOf}
+use Rattle.output.specs.Fill.{mostCalls}
+use Rattle.output.specs.Parts.{Short, Sized, endedText}
 use Rattle.output.specs.Output.{fileSize, seriesSize, programQuarters, lent, foundIn, toldIn, answersText, groupText, quarterText, monthText, figuresText, endText, textOf}
 use Rattle.output.proofs.Answers.{answers-short}
 use Rattle.output.proofs.Feeds.{few-quarters, outside-small}

@@ -1,6 +1,6 @@
 -- T is the outside exchange. Assumes nothing.
 use Prim.Native.Nat.{ℕ, _≤_, _<_}
-use mathlib.Core.Path.{_≡_, refl, sym, _∙_}
+use mathlib.Core.Path.{_≡_, sym, _∙_}
 use mathlib.Core.List.{List, []}
 use native.Mathlib.Omega.{arith}
 use lib.ListN.{length, replicate, length-replicate}
@@ -10,7 +10,7 @@ use Rattle.quantity.proofs.Sums.{sum-same}
 use Rattle.book.specs.Place.{groupRow}
 use Rattle.model.specs.Call.{Stores, lengthsOf, Told}
 use Rattle.model.specs.Plain.{openingOf, figure, outside, plainEnd}
-use Rattle.replay.specs.Replay.{Leaving, toldOf}
+use Rattle.replay.specs.Replay.{Leaving}
 use Rattle.replay.proofs.Main.{gives}
 use Rattle.output.specs.Output.{lent, foundIn, toldIn}
 

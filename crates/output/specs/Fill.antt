@@ -1,18 +1,13 @@
 -- A buffer filled with the output.
-use Prim.Native.Nat.{ℕ, _+_, _*_, _<_}
+use Prim.Native.Nat.{ℕ, _+_, _*_}
 use mathlib.Core.Path.{_≡_}
 use mathlib.Core.Bool.{cond}
-use mathlib.Core.List.{List, []}
+use mathlib.Core.List.{List}
 use lib.Dec.{leb}
-use lib.IntN.{ℤ}
-use lib.ListN.{length, getD}
+use lib.ListN.{length}
 use Rattle.quantity.specs.Limits.{runs, groups}
-use Rattle.message.specs.Cause.{causeNumber}
 use Rattle.replay.specs.Replay.{over}
-use Rattle.replay.specs.declared.Ending.{Ending}
-use Rattle.replay.specs.declared.Ending.the-variants.{End, Refused, Full}
-use Rattle.text.specs.Line.{refusalLine}
-use Rattle.output.specs.Output.{seriesSize, programQuarters, lent, monthText, outputOf}
+use Rattle.output.specs.Output.{programQuarters, outputOf}
 use Rattle.output.specs.declared.Filled.{Filled}
 use Rattle.output.specs.declared.Filled.the-variants.{Length, TooSmall}
 
@@ -46,24 +41,6 @@ figuresRoom = runs * (quarterRoom * programQuarters)
 -- a buffer of so many bytes is enough for any input
 abbrev pub most : ℕ
 most = answerRoom * mostCalls + figuresRoom
-
--- the first n answers are below 100
-abbrev pub Short : (answers : List ℕ) (n : ℕ) → Type 0
-Short l n = (i : ℕ) → i < n → getD l i 0 < 100
-
--- stores of the program's sizes, its series buffer, and answers: one more than 65,536 bytes hold calls
-pub record Sized (v b l s a : List ℕ) : Type 0 where
-  pub values : length v ≡ lent .values
-  pub book : length b ≡ lent .book
-  pub log : length l ≡ lent .log
-  pub series : length s ≡ seriesSize
-  pub answers : length a ≡ mostCalls + 1
-
--- the text behind the answers, by how a replay ended: its refusal, or the figures
-abbrev pub endedText : Ending → (quarters : ℕ) → (ℕ → ℕ → ℕ → ℤ) → List ℕ
-endedText End n f = monthText n f
-endedText (Refused x at) n f = refusalLine (causeNumber x) at
-endedText Full n f = []
 
 -- the output's length, or that a buffer of so many bytes is too small
 abbrev pub filledOf : (room : ℕ) (text : List ℕ) → Filled

@@ -5,7 +5,7 @@ use mathlib.Core.List.{List, [], _++_, map}
 use lib.Dec.{eqb}
 use lib.IntN.{ℤ, natAbs}
 use lib.ListN.{length, getD, take}
-use Rattle.quantity.specs.Limits.{runs, groups, bookRows, mostQuarters}
+use Rattle.quantity.specs.Limits.{mostQuarters, runs, groups, bookRows}
 use Rattle.quantity.specs.Sum.{sumTo}
 use Rattle.book.specs.Place.{groupRow}
 use Rattle.message.specs.Cause.{causeNumber}
@@ -24,7 +24,7 @@ fileSize = 65536
 
 -- "a series buffer of 2,980"
 abbrev pub seriesSize : ℕ
-seriesSize = 2980
+seriesSize = mostQuarters
 
 -- "treats Q > 8 as cause 4"
 abbrev pub programQuarters : ℕ

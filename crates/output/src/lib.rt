@@ -1,6 +1,6 @@
 // The desk program's whole output, worked out from the bytes of its input.
-pub mod figures;
-pub mod print;
+mod figures;
+mod print;
 
 use print::put_answers;
 use print::put_ending;
@@ -8,7 +8,8 @@ ghost use Prim.Native.Nat.{_≤_, min};
 ghost use mathlib.Core.Path.{_≡_};
 ghost use lib.ListN.{length};
 ghost use Rattle.text.specs.Text.{Put};
-ghost use Rattle.output.specs.Fill.{most, Sized, Fills};
+ghost use Rattle.output.specs.Fill.{most, Fills};
+ghost use Rattle.output.specs.Parts.{Sized};
 ghost use Rattle.output.specs.Output.{fileSize, textOf};
 
 // A buffer of so many bytes is enough for any input.
@@ -16,6 +17,17 @@ pub const MOST: usize = 286_749;
 
 // The desk reads so many bytes of its input.
 pub const FILE: usize = 65_536;
+
+// The stores: 162 × Q book for Q up to 8, log rows of four numbers, and one answer more than so many bytes hold calls.
+const VALUES: usize = 4096;
+
+const BOOK: usize = 162 * 8;
+
+const LOG: usize = 4 * 512;
+
+const SERIES: usize = 2980;
+
+const ANSWERS: usize = 21_846;
 
 pub enum Filled {
     // So many bytes of the buffer, from its start on, are the output.
@@ -63,11 +75,11 @@ pub fn fill(input: &[u8], out: &mut [u8]) -> Filled
         return Filled::TooSmall;
     }
     let n = read_of(input.len());
-    let mut values = [0u64; 4096];
-    let mut book = [0u64; 1296];
-    let mut log = [0u64; 2048];
-    let mut series = [0u64; 2980];
-    let mut answers = [0u64; 21846];
+    let mut values = [0u64; VALUES];
+    let mut book = [0u64; BOOK];
+    let mut log = [0u64; LOG];
+    let mut series = [0u64; SERIES];
+    let mut answers = [0u64; ANSWERS];
     Filled::Length(put_output(
         &input[..n],
         out,

@@ -15,7 +15,8 @@ ghost use Rattle.quantity.specs.Limits.{groups, runs};
 ghost use Rattle.quantity.specs.Word.{signed};
 ghost use Rattle.text.specs.Text.{Put, eachTo};
 ghost use Rattle.output.specs.Figures.{IsPlace, Summed, readOf};
-ghost use Rattle.output.specs.Fill.{mostCalls, answerRoom, lineRoom, Short, groupRoom, quarterRoom, figuresRoom, endedText};
+ghost use Rattle.output.specs.Fill.{mostCalls, answerRoom, lineRoom, groupRoom, quarterRoom, figuresRoom};
+ghost use Rattle.output.specs.Parts.{Short, endedText};
 ghost use Rattle.output.specs.Output.{programQuarters, answersText, groupText, quarterText, monthText};
 
 // The number of each call, from 1, and its answer, of the first n.
