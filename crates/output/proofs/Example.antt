@@ -17,20 +17,21 @@ use Rattle.state.specs.Walk.{walk}
 use Rattle.model.specs.Call.{Told, telling}
 use Rattle.model.specs.Causes.{orIf, firstOf, opensOk, otherLengths, isAbsent, notCheck, refusal}
 use Rattle.model.specs.Log.{differ, due}
-use Rattle.model.specs.Plain.{openingOf, dayOf, pointsOf, groupsOf, versionsOf, energiesOf, logOf, settledOf, viewIn, figure, answered, joined, plainReply, plainNext, plainReplies, plainEnd}
+use Rattle.model.specs.Plain.{viewIn, figure, answered, joined, plainReply, plainNext, plainReplies, plainEnd, workedOut, after}
 use Rattle.model.specs.Sample.{room, file}
 use Rattle.model.specs.Series.{toSide, fromSide, sidesOf, onSide, adds, energy, figureOf}
 use Rattle.model.specs.Step.{statusAnswer}
-use Rattle.replay.specs.Feeding.{quartersFor, lentOf, lengthsFor, tells}
-use Rattle.replay.specs.Given.{asked, given}
+use Rattle.replay.specs.Feeding.{lentOf, lengthsFor, tells}
+use Rattle.dispatch.specs.Asked.{asked}
+use Rattle.replay.specs.Given.{given, givenIn}
 use Rattle.replay.specs.Replay.{numbersOf}
 use Rattle.text.specs.Text.{decimalIn, signedText, eachTo}
 use Rattle.output.specs.Example.{exampleInput, exampleOutput}
 use Rattle.output.specs.Output.{lent, foundIn, toldIn, answersText, groupText, quarterText, monthText, figuresText, endText, textOf, outputOf}
 
 -- the calls that the reader finds are open, activate, submit, submit again
-calls-read : map given (foundIn exampleInput .calls) ≡ file
-unfolding callsWithin decodeIn numbersIn received callOf laterCallOf asked given file
+calls-read : map given (givenIn (foundIn exampleInput .calls)) ≡ file
+unfolding callsWithin decodeIn numbersIn received callOf laterCallOf asked givenIn file
 calls-read = refl
 
 file-ends : foundIn exampleInput .ending ≡ whole
@@ -39,16 +40,16 @@ file-ends = refl
 
 -- what the plain desk is told of them
 told-file : tells lent [] file ≡ map (telling (room 1)) file
-unfolding all any fold seriesOk best openingOk held walk orIf firstOf opensOk otherLengths isAbsent notCheck refusal differ due openingOf dayOf pointsOf groupsOf versionsOf energiesOf logOf settledOf viewIn joined plainNext file quartersFor lentOf lengthsFor tells
+unfolding all any fold seriesOk best openingOk held walk orIf firstOf opensOk otherLengths isAbsent notCheck refusal differ due viewIn joined plainNext file lentOf lengthsFor tells workedOut after
 told-file = refl
 
 -- the lines of the answers, and those of the figures
 answers-text : answersText (numbersOf (plainReplies [] (map (telling (room 1)) file))) ≡ take 17 exampleOutput
-unfolding all any fold seriesOk best openingOk held walk orIf firstOf opensOk otherLengths isAbsent notCheck refusal differ due openingOf dayOf pointsOf groupsOf versionsOf energiesOf logOf settledOf viewIn answered joined plainReply plainNext plainReplies file statusAnswer decimalIn eachTo answersText
+unfolding all any fold seriesOk best openingOk held walk orIf firstOf opensOk otherLengths isAbsent notCheck refusal differ due viewIn answered joined plainReply plainNext plainReplies file statusAnswer decimalIn eachTo answersText workedOut after
 answers-text = refl
 
 figures-text : figuresText (plainEnd [] (map (telling (room 1)) file)) ≡ drop 17 exampleOutput
-unfolding all any fold sumTo seriesOk best openingOk held walk orIf firstOf opensOk otherLengths isAbsent notCheck refusal differ due openingOf dayOf pointsOf groupsOf versionsOf energiesOf logOf settledOf viewIn figure joined plainNext plainEnd file toSide fromSide sidesOf onSide adds energy figureOf statusAnswer decimalIn signedText eachTo groupText quarterText monthText figuresText
+unfolding all any fold sumTo seriesOk best openingOk held walk orIf firstOf opensOk otherLengths isAbsent notCheck refusal differ due viewIn figure joined plainNext plainEnd file toSide fromSide sidesOf onSide adds energy figureOf statusAnswer decimalIn signedText eachTo groupText quarterText monthText figuresText workedOut after
 figures-text = refl
 
 -- "Hexadecimal input: .. Output: .."

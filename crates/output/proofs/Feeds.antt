@@ -22,13 +22,13 @@ use Rattle.state.specs.declared.Selection.{Selection}
 use Rattle.state.specs.declared.Selection.the-variants.{None, Selected}
 use Rattle.model.specs.Call.{Call, opens, activates, deactivates, submits, notices, assigns, shows, asks, settles, Lengths, Told, answerNumber}
 use Rattle.model.specs.Causes.{openingBy, opensOk, orIf, firstOf, rules, refusal}
-use Rattle.model.specs.Plain.{openingOf, pointsOf, versionsOf, energiesOf, viewIn, outside, answered, joined, plainReply, plainNext, plainEnd}
+use Rattle.model.specs.Plain.{openingOf, pointsOf, versionsOf, energiesOf, viewIn, outside, answered, joined, plainReply, plainNext, plainEnd, workedOut, after}
 use Rattle.model.specs.Series.{energy, isOutside, outsideOf}
 use Rattle.model.specs.declared.Verdict.{Verdict}
 use Rattle.model.specs.declared.Verdict.the-variants.{Fine, Refuse}
 use Rattle.model.proofs.Lists.{all-snoc}
 use Rattle.model.proofs.Rules.{passed}
-use Rattle.replay.specs.Feeding.{quartersFor, lentOf, lengthsFor, toldAs, tells}
+use Rattle.replay.specs.Feeding.{lentOf, lengthsFor, toldAs, tells}
 use Rattle.output.specs.Output.{programQuarters, lent}
 
 -- a call that is refused leaves the list
@@ -60,7 +60,7 @@ within q e = by (leb (bookRows * q) (lent .book)) refl
 
 -- an opening that is taken has at most 8 quarter hours
 taken-few : (m q f c k : ℕ) (gs : List ℕ) → opensOk (openingBy q f c k (lengthsFor lent m (opens q f c k gs))) gs ≡ true → q ≤ programQuarters
-unfolding opensOk openingOk lengthsFor quartersFor
+unfolding opensOk openingOk lengthsFor
 taken-few m q f c k gs e =
     within q
     (eqb-true _ _ (and-left _ _ (and-right (deadlinesOk f c k) _ (and-right (quartersOk q) _ (and-left _ _ e)))))
@@ -70,7 +70,7 @@ abbrev Few : List Told → Type 0
 Few h = openingOf h .quarters ≤ programQuarters
 
 few-next : (h : List Told) (c : Call) → Few h → refusal (viewIn h) (toldAs lent h c) ≡ Fine → Few (toldAs lent h c ∷ h)
-unfolding openingOf refusal
+unfolding refusal workedOut after fold
 few-next h (opens q f c k gs) p e = taken-few (openingOf h .quarters) q f c k gs (not-false _ (passed (rules (viewIn h) _ (opens q f c k gs)) e .1 .0))
 few-next h (activates x k a b d) p e = p
 few-next h (deactivates x d) p e = p
@@ -82,7 +82,7 @@ few-next h (asks x v) p e = p
 few-next h (settles r d) p e = p
 
 pub few-quarters : (cs : List Call) → openingOf (plainEnd [] (tells lent [] cs)) .quarters ≤ programQuarters
-unfolding openingOf
+unfolding workedOut after fold
 few-quarters cs = kept Few lent few-next [] cs (omega arith)
 
 -- "treats Q > 8 as cause 4", after 6: an opening with more than 8 quarter hours is answered 6 on an open desk, else 4
@@ -107,13 +107,13 @@ abbrev Fit : List Told → Type 0
 Fit h = all (all energyOk) (energiesOf h) ≡ true
 
 fit-next : (n : Lengths) (h : List Told) (c : Call) → Fit h → refusal (viewIn h) (toldAs n h c) ≡ Fine → Fit (toldAs n h c ∷ h)
-unfolding energiesOf refusal
+unfolding refusal workedOut after fold
 fit-next n h (opens q f c k gs) p e = p
 fit-next n h (activates x k a b d) p e = p
 fit-next n h (deactivates x d) p e = p
 fit-next n h (submits x v d es) p e =
     let ok = not-false _ (passed (rules (viewIn h) _ (submits x v d es)) e .1 .1 .0) in
-    all-snoc (all energyOk) (energiesOf h) es p (and-right (eqb (length es) (viewIn h .opening .quarters)) _ (and-right (dayOk d) _ (and-right (versionOk v) _ (and-right (pointOk x) _ ok))))
+    all-snoc (all energyOk) (energiesOf h) es p (and-right (eqb (length es) (viewIn h .frame .opening .quarters)) _ (and-right (dayOk d) _ (and-right (versionOk v) _ (and-right (pointOk x) _ ok))))
 fit-next n h (notices x v y d) p e = p
 fit-next n h (assigns a g d) p e = p
 fit-next n h (shows r g) p e = p
@@ -121,7 +121,7 @@ fit-next n h (asks x v) p e = p
 fit-next n h (settles r d) p e = p
 
 fit-energies : (n : Lengths) (cs : List Call) → Fit (plainEnd [] (tells n [] cs))
-unfolding energiesOf all
+unfolding all workedOut after fold
 fit-energies n cs = kept Fit n (fit-next n) [] cs refl
 
 energy-small : (es : List (List ℤ)) → all (all energyOk) es ≡ true → (s : Selection) (q : ℕ) → natAbs (energy es s q) ≤ mostEnergy

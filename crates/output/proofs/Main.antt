@@ -13,15 +13,15 @@ use Rattle.quantity.specs.Word.{signed}
 use Rattle.quantity.proofs.Sums.{sum-same}
 use Rattle.quantity.proofs.Words.{signed-word, small-fits}
 use Rattle.book.specs.Place.{groupRow}
-use Rattle.message.specs.Call.{Sent}
 use Rattle.message.specs.File.{Ending, whole, stopped, Found, callsIn}
 use Rattle.message.proofs.Files.{few-calls}
 use Rattle.model.specs.Call.{Call, Stores, Lengths, lengthsOf, Told}
 use Rattle.model.specs.Plain.{openingOf, viewIn, figure, outside, plainReplies, plainNext, plainEnd}
 use Rattle.model.specs.View.{View, viewOf}
 use Rattle.replay.specs.Feeding.{toldAs, tells}
-use Rattle.replay.specs.Given.{given}
+use Rattle.replay.specs.Given.{Given, given, givenIn}
 use Rattle.replay.specs.Replay.{callsFor, toldOf, endingOf, numbersOf, over, Leaving, Replays}
+use Rattle.replay.proofs.Sendings.{given-few}
 use Rattle.replay.specs.declared.Ending.{Ending as EndingOf}
 use Rattle.replay.specs.declared.Replayed.{Replayed}
 use Rattle.text.specs.Line.{totalLine}
@@ -95,14 +95,14 @@ module _ (file : List ℕ) (s : Stores) (buffer output : List ℕ) (r : Replayed
     few = omega (arith, few-calls seriesSize file small, Z .answers)
 
     -- every call is answered
-    calls-all : callsFor file (length buffer) (length output) ≡ foundIn file .calls
-    calls-all = ap (λ (n : ℕ). callsFor file n (length output)) (Z .series) ∙ take-all (length output) (foundIn file .calls) (omega (arith, few))
+    calls-all : callsFor file (length buffer) (length output) ≡ givenIn (foundIn file .calls)
+    calls-all = ap (λ (n : ℕ). callsFor file n (length output)) (Z .series) ∙ take-all (length output) (givenIn (foundIn file .calls)) (omega (arith, few, given-few (foundIn file .calls)))
 
     lengths-are : lengthsOf s ≡ lent
     lengths-are = λ i. record { values = Z .values i; book = Z .book i; log = Z .log i }
 
     told-all : toldOf s (callsFor file (length buffer) (length output)) ≡ toldIn file
-    told-all = ap₂ (λ (n : Lengths) (cs : List Sent). tells n [] (map given cs)) lengths-are calls-all
+    told-all = ap₂ (λ (n : Lengths) (cs : List Given). tells n [] (map given cs)) lengths-are calls-all
 
     -- the plain desk's list
     abbrev list : List Told
@@ -112,26 +112,26 @@ module _ (file : List ℕ) (s : Stores) (buffer output : List ℕ) (r : Replayed
     leaving = subst (λ (l : List Told). Leaving (plainEnd [] l) s after) told-all (R .gives .stores)
 
     -- the month's quarter hours
-    pub quarters-is : viewOf (r .desk) .opening .quarters ≡ openingOf list .quarters
+    pub quarters-is : viewOf (r .desk) .frame .opening .quarters ≡ openingOf list .quarters
     unfolding viewIn
-    quarters-is = ap (λ (v : View). v .opening .quarters) (R .desk .view) ∙ ap (λ (l : List Told). openingOf (plainEnd [] l) .quarters) told-all
+    quarters-is = ap (λ (v : View). v .frame .opening .quarters) (R .desk .view) ∙ ap (λ (l : List Told). openingOf (plainEnd [] l) .quarters) told-all
 
-    pub quarters-few : viewOf (r .desk) .opening .quarters ≤ programQuarters
-    quarters-few = omega (arith, quarters-is, few-quarters (map given (foundIn file .calls)))
+    pub quarters-few : viewOf (r .desk) .frame .opening .quarters ≤ programQuarters
+    quarters-few = omega (arith, quarters-is, few-quarters (map given (givenIn (foundIn file .calls))))
 
-    pub summed : ((i : ℕ) → getD (after .book) i 0 < 2 ^ 64) → Summed (after .book) (viewOf (r .desk) .opening .quarters)
+    pub summed : ((i : ℕ) → getD (after .book) i 0 < 2 ^ 64) → Summed (after .book) (viewOf (r .desk) .frame .opening .quarters)
     summed fits =
         rw quarters-is
-        (book-summed list s after leaving (λ run q. outside-small lent (map given (foundIn file .calls)) run q) fits)
+        (book-summed list s after leaving (λ run q. outside-small lent (map given (givenIn (foundIn file .calls))) run q) fits)
 
     -- how many answers there are
     pub answered-few : r .answered ≤ mostCalls
-    answered-few = omega (arith, R .answered, ap (λ (l : List Sent). length l) calls-all, few-calls seriesSize file small)
+    answered-few = omega (arith, R .answered, ap (λ (l : List Given). length l) calls-all, few-calls seriesSize file small, given-few (foundIn file .calls))
 
     pub answers-are : take (r .answered) output′ ≡ numbersOf (plainReplies [] (toldIn file))
     answers-are =
         let l = numbersOf (plainReplies [] (toldIn file)) in
-        let n : r .answered ≡ length l = R .answered ∙ ap (λ (x : List Sent). length x) calls-all ∙ sym (length-map (foundIn file .calls) given) ∙ sym (length-answers lent [] (map given (foundIn file .calls))) in
+        let n : r .answered ≡ length l = R .answered ∙ ap (λ (x : List Given). length x) calls-all ∙ sym (length-map (givenIn (foundIn file .calls)) given) ∙ sym (length-answers lent [] (map given (givenIn (foundIn file .calls)))) in
         ap₂ take n (R .gives .answers ∙ ap (λ (x : List Told). over (numbersOf (plainReplies [] x)) output) told-all)
         ∙ take-append-seam l (drop (length l) output)
 
@@ -143,10 +143,10 @@ module _ (file : List ℕ) (s : Stores) (buffer output : List ℕ) (r : Replayed
     ending-is = R .ending ∙ ap (λ (n : ℕ). endingOf (length file) (length output) (callsIn n file)) (Z .series)
 
     -- the whole output
-    pub text-is : answersText (take (r .answered) output′) ++ endedText (r .ending) (viewOf (r .desk) .opening .quarters) (readOf (after .book) (viewOf (r .desk) .opening .quarters)) ≡ textOf file
+    pub text-is : answersText (take (r .answered) output′) ++ endedText (r .ending) (viewOf (r .desk) .frame .opening .quarters) (readOf (after .book) (viewOf (r .desk) .frame .opening .quarters)) ≡ textOf file
     unfolding textOf
     text-is =
         ap₂ (λ (x y : List ℕ). x ++ y) (ap answersText answers-are)
-        (ap (λ (e : EndingOf). endedText e (viewOf (r .desk) .opening .quarters) (readOf (after .book) (viewOf (r .desk) .opening .quarters))) ending-is
-        ∙ ended file (foundIn file) (length output) (viewOf (r .desk) .opening .quarters) (readOf (after .book) (viewOf (r .desk) .opening .quarters)) list few
+        (ap (λ (e : EndingOf). endedText e (viewOf (r .desk) .frame .opening .quarters) (readOf (after .book) (viewOf (r .desk) .frame .opening .quarters))) ending-is
+        ∙ ended file (foundIn file) (length output) (viewOf (r .desk) .frame .opening .quarters) (readOf (after .book) (viewOf (r .desk) .frame .opening .quarters)) list few
         (ap (λ (q : ℕ). monthText q (readOf (after .book) q)) quarters-is ∙ book-text list s after leaving))

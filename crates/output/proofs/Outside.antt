@@ -10,6 +10,7 @@ use Rattle.quantity.proofs.Sums.{sum-same}
 use Rattle.book.specs.Place.{groupRow}
 use Rattle.model.specs.Call.{Stores, lengthsOf, Told}
 use Rattle.model.specs.Plain.{openingOf, figure, outside, plainEnd}
+use Rattle.replay.specs.Given.{givenIn}
 use Rattle.replay.specs.Replay.{Leaving}
 use Rattle.replay.proofs.Main.{gives}
 use Rattle.output.specs.Output.{lent, foundIn, toldIn}
@@ -24,7 +25,7 @@ leaves h s after L run q lo hi less =
 pub total-outside : (file : List ℕ) (run q : ℕ) → 1 ≤ run → run ≤ runs → q < openingOf (plainEnd [] (toldIn file)) .quarters
     → sumTo groups (λ (g : ℕ). figure (plainEnd [] (toldIn file)) run (groupRow g) q) ≡ outside (plainEnd [] (toldIn file)) run q
 total-outside file run q lo hi less =
-    let cs = foundIn file .calls in
+    let cs = givenIn (foundIn file .calls) in
     let s : Stores = record { values = replicate 4096 0; book = replicate 1296 0; log = replicate 2048 0 } in
     let n : lengthsOf s ≡ lent = λ i. record { values = length-replicate {A = ℕ} 4096 0 i; book = length-replicate {A = ℕ} 1296 0 i; log = length-replicate {A = ℕ} 2048 0 i } in
     leaves (plainEnd [] (toldIn file)) s _ (rw n at (gives s [] (replicate (length cs) 0) cs (omega (arith, length-replicate {A = ℕ} (length cs) 0)) .stores)) run q lo hi less

@@ -13,7 +13,7 @@ use Rattle.message.specs.File.{Ending, whole, stopped, Found, callsIn}
 use Rattle.model.specs.Call.{Lengths, Told}
 use Rattle.model.specs.Plain.{openingOf, figure, plainReplies, plainEnd}
 use Rattle.replay.specs.Feeding.{tells}
-use Rattle.replay.specs.Given.{given}
+use Rattle.replay.specs.Given.{given, givenIn}
 use Rattle.replay.specs.Replay.{numbersOf}
 use Rattle.text.specs.Line.{answerLine, refusalLine, groupLine, totalLine}
 use Rattle.text.specs.Text.{eachTo}
@@ -40,7 +40,7 @@ foundIn file = callsIn seriesSize file
 
 -- what the plain desk is told of its calls
 abbrev pub toldIn : (file : List ℕ) → List Told
-toldIn file = tells lent [] (map given (foundIn file .calls))
+toldIn file = tells lent [] (map given (givenIn (foundIn file .calls)))
 
 -- "It prints call number (from 1) and answer in decimal for each call"
 unfoldable pub answersText : (answers : List ℕ) → List ℕ

@@ -4,6 +4,8 @@ mod print;
 
 use print::put_answers;
 use print::put_ending;
+use quantity::limits::BOOK_ROWS;
+use quantity::limits::QUARTERS;
 ghost use Prim.Native.Nat.{_≤_, min};
 ghost use mathlib.Core.Path.{_≡_};
 ghost use lib.ListN.{length};
@@ -21,11 +23,11 @@ pub const FILE: usize = 65_536;
 // The stores: 162 × Q book for Q up to 8, log rows of four numbers, and one answer more than so many bytes hold calls.
 const VALUES: usize = 4096;
 
-const BOOK: usize = 162 * 8;
+const BOOK: usize = BOOK_ROWS as usize * 8;
 
 const LOG: usize = 4 * 512;
 
-const SERIES: usize = 2980;
+const SERIES: usize = QUARTERS as usize;
 
 const ANSWERS: usize = 21_846;
 
@@ -52,7 +54,8 @@ fn put_output(
     let done = replay::replay(file, values, book, log, series, answers);
     let ending = done.ending;
     let desk = done.desk;
-    let opening = desk.opening;
+    let frame = desk.frame;
+    let opening = frame.opening;
     let next = put_answers(out, 0, answers, done.answered);
     put_ending(out, next, ending, opening.quarters as usize, book)
 }

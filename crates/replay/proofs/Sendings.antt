@@ -17,10 +17,13 @@ use Rattle.quantity.proofs.Words.{signed-word, small-fits}
 use Rattle.message.specs.Call.{Sent, Carried}
 use Rattle.message.specs.Energy.{fitsEnergy}
 use Rattle.message.specs.Number.{fitsNumber}
-use Rattle.reader.specs.Reader.{filled}
+use Rattle.reader.specs.Reader.{padded, filled}
+use Rattle.message.specs.Named.{callOf, groupsOf}
 use Rattle.message.specs.declared.DeskCall.{DeskCall}
+use Rattle.message.specs.declared.Named.{Named}
+use Rattle.message.specs.declared.Named.the-variants.{Known, Unknown}
 use Rattle.dispatch.specs.Asked.{asked}
-use Rattle.replay.specs.Given.{given}
+use Rattle.replay.specs.Given.{given, before, givenIn}
 
 energy-back : (z : ℤ) → fitsEnergy z ≡ true → signed (word z) ≡ z
 energy-back (pos n) h = signed-word (pos n) (small-fits (pos n) (omega (arith, ltb-true n (2 ^ 62) h)))
@@ -41,3 +44,13 @@ pub same-call : (c : Sent) → Carried c → (series : List ℕ) (d : DeskCall) 
 same-call c w series d b f g =
     let fits = and-right (leb (length (c .energies)) mostQuarters) _ (and-right (all fitsNumber (c .fields)) _ (w .fits)) in
     rw (b, f, g, filled-part (c .energies) series, energies-back (c .energies) fits)
+
+-- a file has no more calls than it sends
+pub given-few : (cs : List Sent) → length (givenIn cs) ≤ length cs
+unfolding givenIn
+given-few [] = omega arith
+given-few (c ∷ l) = go (callOf (c .kind) (padded (c .fields))) (given-few l)
+  where
+    go : (n : Named) → length (givenIn l) ≤ length l → length (before n (groupsOf (padded (c .fields))) (c .energies) (givenIn l)) ≤ length (c ∷ l)
+    go (Known d) h = omega arith
+    go Unknown h = omega arith
