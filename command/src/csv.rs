@@ -1,0 +1,195 @@
+//! Numbers as people write them: energies in a line, in a file with a number a line, in a column of a csv with a header.
+
+use std::fs;
+use std::path::Path;
+
+use crate::calls::{named, names_of, MOST_QUARTERS};
+use crate::output;
+
+/// What a message file can carry: fields from 0 to 2^63 - 1, energies from -2^62 to 2^62 - 1.
+const FIELDS: (i128, i128) = (0, (1 << 63) - 1);
+const ENERGIES: (i128, i128) = (-(1 << 62), (1 << 62) - 1);
+
+/// The unit of a line's energies: watt-hours, or kilowatt-hours with up to three decimals.
+#[derive(Clone, Copy, PartialEq)]
+pub enum Unit {
+    WattHours,
+    KilowattHours,
+}
+
+/// A word as complaints quote it, cut where it is long.
+pub fn quoted(word: &str) -> String {
+    let short: String = word.chars().take(32).collect();
+    let end = if short.len() < word.len() { ".." } else { "" };
+    format!("'{}{end}'", short.escape_debug())
+}
+
+/// Whether a word is digits in groups of three with marks between.
+fn grouped(word: &str) -> bool {
+    let digits = word.strip_prefix('-').unwrap_or(word);
+    let parts: Vec<&str> = digits.split(['.', ',', '\'', '_', '\u{a0}']).collect();
+    let whole = |part: &&str| !part.is_empty() && part.bytes().all(|byte| byte.is_ascii_digit());
+    parts.len() > 1 && parts.iter().all(|part| whole(&part)) && parts[1..].iter().all(|part| part.len() == 3)
+}
+
+/// The whole number of a word of digits, perhaps with a minus; None where it is none.
+fn whole(word: &str) -> Option<Result<i128, ()>> {
+    let digits = word.strip_prefix('-').unwrap_or(word);
+    let plain = !digits.is_empty() && digits.bytes().all(|byte| byte.is_ascii_digit());
+    if !plain || (digits.len() > 1 && digits.starts_with('0')) {
+        return None;
+    }
+    // More digits than any number here has.
+    Some(if digits.len() > 30 {
+        Err(())
+    } else {
+        word.parse().map_err(|_| ())
+    })
+}
+
+fn no_number(name: &str, word: &str) -> String {
+    let digits = word.strip_prefix('-').unwrap_or(word);
+    if grouped(word) {
+        return format!("{name} has its digits in groups: {}; write them together", quoted(word));
+    }
+    if digits.len() > 1 && digits.starts_with('0') && digits.bytes().all(|byte| byte.is_ascii_digit()) {
+        return format!(
+            "{name} has zeros in front: {}; write a number without them, and its digits together",
+            quoted(word)
+        );
+    }
+    format!("{name} is no whole number: {}", quoted(word))
+}
+
+fn within(name: &str, word: &str, number: Result<i128, ()>, range: (i128, i128)) -> Result<i128, String> {
+    match number {
+        Ok(number) if range.0 <= number && number <= range.1 => Ok(number),
+        _ => Err(format!(
+            "{name} is outside {} to {}, what a file can carry: {}",
+            range.0,
+            range.1,
+            quoted(word)
+        )),
+    }
+}
+
+/// A field's number, by its name or in digits.
+pub fn field(name: &str, word: &str) -> Result<u64, String> {
+    if let Some(number) = named(name, word) {
+        return Ok(number);
+    }
+    let Some(number) = whole(word) else {
+        let names = names_of(name);
+        if names.is_empty() || word.starts_with(|first: char| first.is_ascii_digit() || first == '-') {
+            return Err(no_number(name, word));
+        }
+        return Err(format!(
+            "{name} is no number and no name: {}; names are {}",
+            quoted(word),
+            names.join(", ")
+        ));
+    };
+    Ok(within(name, word, number, FIELDS)? as u64)
+}
+
+/// An energy in watt-hours.
+fn energy(word: &str, unit: Unit) -> Result<u64, String> {
+    let name = "an energy";
+    if unit == Unit::WattHours {
+        let number = whole(word).ok_or_else(|| no_number(name, word))?;
+        return Ok(within(name, word, number, ENERGIES)? as i64 as u64);
+    }
+    let (front, decimals) = word.split_once('.').unwrap_or((word, "000"));
+    let fits = (1..=3).contains(&decimals.len()) && decimals.bytes().all(|byte| byte.is_ascii_digit());
+    let joined = format!("{front}{decimals:0<3}");
+    match whole(front) {
+        Some(Ok(_)) if fits => {
+            let number = joined.parse().map_err(|_| ());
+            Ok(within(name, word, number, ENERGIES)? as i64 as u64)
+        }
+        Some(Err(())) if fits => within(name, word, Err(()), ENERGIES).map(|_| 0),
+        _ => Err(format!(
+            "{name} in kWh is digits with up to three decimals behind a point: {}",
+            quoted(word)
+        )),
+    }
+}
+
+fn few(count: usize) -> Result<(), String> {
+    if count > MOST_QUARTERS {
+        return Err(format!("{count} energies, and a file carries at most {MOST_QUARTERS}"));
+    }
+    Ok(())
+}
+
+/// A line's energies: `none`, numbers with commas between, `@FILE` or `@FILE:COLUMN`.
+pub fn energies(word: &str, unit: Unit, folder: &Path) -> Result<Vec<u64>, String> {
+    if let Some(source) = word.strip_prefix('@') {
+        return from_file(source, unit, folder);
+    }
+    let words: Vec<&str> = if word == "none" {
+        Vec::new()
+    } else {
+        word.split(',').collect()
+    };
+    let series: Vec<u64> = words.iter().map(|word| energy(word, unit)).collect::<Result<_, _>>()?;
+    few(series.len())?;
+    Ok(series)
+}
+
+/// The lines of a file of numbers.
+fn lines(name: &str, folder: &Path) -> Result<Vec<String>, String> {
+    let bytes = fs::read(folder.join(name)).map_err(|error| format!("{name}: {}", output::words(&error)))?;
+    if bytes.starts_with(b"\xEF\xBB\xBF") {
+        return Err(format!("{name}: begins with a byte order mark; save it as UTF-8 without one"));
+    }
+    let text = String::from_utf8(bytes).map_err(|_| format!("{name}: is no text in UTF-8"))?;
+    if let Some(at) = text.split('\n').position(|line| line.contains('\r')) {
+        return Err(format!(
+            "{name}: line {}: has a carriage return; line ends are line feeds alone",
+            at + 1
+        ));
+    }
+    let text = text.strip_suffix('\n').unwrap_or(&text);
+    Ok(if text.is_empty() {
+        Vec::new()
+    } else {
+        text.split('\n').map(str::to_string).collect()
+    })
+}
+
+/// A cell without the quotes around it.
+fn cell(word: &str) -> &str {
+    let word = word.trim_matches([' ', '\t']);
+    word.strip_prefix('"').and_then(|word| word.strip_suffix('"')).unwrap_or(word)
+}
+
+fn from_file(source: &str, unit: Unit, folder: &Path) -> Result<Vec<u64>, String> {
+    let (name, column) = match source.rsplit_once(':') {
+        Some((name, column)) => (name, Some(column)),
+        None => (source, None),
+    };
+    let lines = lines(name, folder)?;
+    let mut numbered = lines.iter().enumerate();
+    let mut pick: Box<dyn Fn(&str) -> Option<String>> = Box::new(|line| Some(cell(line).to_string()));
+    if let Some(column) = column {
+        let header = numbered.next().map(|(_, line)| line.as_str()).unwrap_or("");
+        let mark = if header.contains(';') { ';' } else { ',' };
+        let names: Vec<&str> = header.split(mark).map(cell).collect();
+        let Some(at) = names.iter().position(|name| *name == column) else {
+            return Err(format!(
+                "{name}: line 1: has no column {}; its columns are {}",
+                quoted(column),
+                names.join(", ")
+            ));
+        };
+        pick = Box::new(move |line| line.split(mark).nth(at).map(|word| cell(word).to_string()));
+    }
+    let mut series = Vec::new();
+    for (at, line) in numbered {
+        let word = pick(line).ok_or_else(|| format!("{name}: line {}: ends before the column", at + 1))?;
+        series.push(energy(&word, unit).map_err(|wrong| format!("{name}: line {}: {wrong}", at + 1))?);
+    }
+    few(series.len()).map_err(|wrong| format!("{name}: {wrong}"))?;
+    Ok(series)
+}

@@ -1,0 +1,126 @@
+//! A month as it is given: text or a message file, told apart by content, read whole.
+
+use std::fs;
+use std::io::{self, IsTerminal, Read};
+use std::path::{Path, PathBuf};
+
+use crate::calls::{Call, Place};
+use crate::library;
+use crate::output::{words, Failure};
+use crate::text;
+
+/// A month's calls, packed, and where each of them stands.
+pub struct Month {
+    pub name: String,
+    pub file: Vec<u8>,
+    pub calls: Vec<Call>,
+}
+
+/// The bytes of a file, of a named pipe, or of standard input for `-`.
+pub fn read(name: &str) -> Result<Vec<u8>, Failure> {
+    if name == "-" {
+        let mut bytes = Vec::new();
+        if io::stdin().is_terminal() {
+            crate::output::warn("reads standard input; end it with Ctrl-D");
+        }
+        return io::stdin()
+            .read_to_end(&mut bytes)
+            .map(|_| bytes)
+            .map_err(|error| Failure::new(format!("standard input cannot be read: {}", words(&error))));
+    }
+    fs::read(name).map_err(|error| Failure::new(format!("{name}: {}", words(&error))))
+}
+
+/// The name as it is shown.
+pub fn shown(name: &str) -> &str {
+    if name == "-" {
+        "standard input"
+    } else {
+        name
+    }
+}
+
+/// The folder that names in the text are looked up in.
+fn folder(name: &str) -> PathBuf {
+    match Path::new(name).parent() {
+        Some(folder) if name != "-" => folder.to_path_buf(),
+        _ => PathBuf::new(),
+    }
+}
+
+const MARK: &[u8] = b"\xEF\xBB\xBF";
+
+/// Whether the bytes are text. No call's kind is a printable character, so a message file never looks like one.
+pub fn is_text(bytes: &[u8]) -> bool {
+    let first = bytes.iter().find(|byte| !byte.is_ascii_whitespace());
+    bytes.starts_with(MARK) || first.is_some_and(|byte| byte.is_ascii_graphic())
+}
+
+/// The text's packed calls; every bad line is named at once.
+pub fn packed(name: &str, bytes: &[u8]) -> Result<Month, Failure> {
+    let name = name.to_string();
+    let shown = shown(&name).to_string();
+    if bytes.starts_with(MARK) {
+        return Err(Failure::new(format!(
+            "{shown}: begins with a byte order mark; save it as UTF-8 without one"
+        )));
+    }
+    match text::packed(bytes, &folder(&name)) {
+        Ok((file, calls)) => Ok(Month {
+            name: shown,
+            file,
+            calls,
+        }),
+        Err(complaints) => {
+            let lines = complaints.iter().map(|complaint| format!("{shown}: {complaint}")).collect();
+            Err(Failure {
+                lines,
+                status: crate::NOTHING,
+            })
+        }
+    }
+}
+
+/// The calls of a message file, as far as it is whole.
+pub fn unpacked(file: &[u8]) -> Vec<Call> {
+    let mut calls = Vec::new();
+    let mut reader = library::Reader::new(file);
+    while let library::Read::Call(call) = reader.next() {
+        calls.push(Call {
+            place: Place {
+                line: 0,
+                number: calls.len() + 1,
+                offset: call.offset,
+            },
+            ..call.into()
+        });
+    }
+    calls
+}
+
+/// The month that a file holds.
+pub fn month(name: &str) -> Result<Month, Failure> {
+    let bytes = read(name)?;
+    let shown = shown(name);
+    if bytes.iter().all(|byte| byte.is_ascii_whitespace()) {
+        return Err(Failure::new(format!("{shown}: is empty: it has no calls")));
+    }
+    if bytes.starts_with(b"\xFF\xFE") || bytes.starts_with(b"\xFE\xFF") {
+        return Err(Failure::new(format!(
+            "{shown}: is text in UTF-16; save it as UTF-8 without a byte order mark"
+        )));
+    }
+    if is_text(&bytes) {
+        let month = packed(name, &bytes)?;
+        if month.calls.is_empty() {
+            return Err(Failure::new(format!("{shown}: has comments alone, and no calls")));
+        }
+        return Ok(month);
+    }
+    let calls = unpacked(&bytes);
+    Ok(Month {
+        name: shown.to_string(),
+        file: bytes,
+        calls,
+    })
+}

@@ -1,0 +1,122 @@
+//! `desk figures`, `desk log` and `desk points`. Each list has one order in every form: figures by run, quarter hour and group; the log as it was
+//! written; points by number, and a point's versions by version.
+
+use crate::arguments::Wanted;
+use crate::calls::{name_in, SERIES, STATUSES};
+use crate::library::{Point, Version, GROUPS};
+use crate::month::{self, Ran};
+use crate::output::{self, Failure};
+use crate::sheet::{Cell, Column, Sheet};
+
+/// Writes a list of a month, with a word where the month was not accepted whole.
+fn told(ran: &Ran, sheet: Sheet) -> Result<i32, Failure> {
+    ran.warn();
+    output::write(sheet.end().as_bytes())?;
+    Ok(ran.status())
+}
+
+fn number(number: u64) -> Cell<'static> {
+    Cell::Number(number as i64)
+}
+
+const FIGURES: &[Column] = &[
+    Column("run", 3),
+    Column("quarter", 7),
+    Column("group", 5),
+    Column("figure", 16),
+];
+
+/// Figures that are not 0, or all with `--all`.
+pub fn figures(wanted: &Wanted) -> Result<i32, Failure> {
+    let ran = month::run(&wanted.file)?;
+    let mut sheet = Sheet::new(wanted.form, FIGURES);
+    let groups = || (1..=GROUPS).filter(|group| wanted.group.is_none_or(|asked| asked == *group));
+    for run in (1..=2).filter(|run| wanted.run.is_none_or(|asked| asked == *run)) {
+        let mut rows: Vec<_> = groups().map(|group| (group, ran.replay.row(run, group - 1))).collect();
+        for quarter in 1..=ran.replay.quarters {
+            for (group, row) in &mut rows {
+                let figure = row.next().unwrap_or(0);
+                if figure != 0 || wanted.all {
+                    sheet.row(&[number(run), number(quarter as u64), number(*group), Cell::Number(figure)]);
+                }
+            }
+        }
+    }
+    told(&ran, sheet)
+}
+
+const LOG: &[Column] = &[
+    Column("row", 4),
+    Column("day", 3),
+    Column("point", 5),
+    Column("run", 3),
+    Column("version", 14),
+];
+
+/// The rows of the log in their own order.
+pub fn log(wanted: &Wanted) -> Result<i32, Failure> {
+    let ran = month::run(&wanted.file)?;
+    let mut sheet = Sheet::new(wanted.form, LOG);
+    for (at, row) in ran.replay.log.iter().enumerate() {
+        if wanted.run.is_none_or(|asked| asked == row.run) {
+            sheet.row(&[
+                number(at as u64 + 1),
+                number(row.day),
+                number(row.point),
+                number(row.run),
+                number(row.version),
+            ]);
+        }
+    }
+    told(&ran, sheet)
+}
+
+const POINTS: &[Column] = &[
+    Column("point", 5),
+    Column("kind", -14),
+    Column("area", 4),
+    Column("partner", 7),
+    Column("since", 5),
+    Column("version", 14),
+    Column("status", -26),
+    Column("run_1", -5),
+    Column("run_2", -5),
+];
+
+fn yes(counts: bool) -> Cell<'static> {
+    Cell::Word(if counts { "yes" } else { "no" })
+}
+
+fn point_row(sheet: &mut Sheet, point: &Point, version: Option<&Version>) {
+    let counts = |run: usize, version: &Version| yes(point.selected[run] == version.version);
+    sheet.row(&[
+        number(point.number),
+        Cell::Word(name_in(&SERIES, point.kind)),
+        number(point.area),
+        number(point.partner),
+        number(point.since),
+        version.map_or(Cell::Nothing, |version| number(version.version)),
+        version.map_or(Cell::Nothing, |version| Cell::Word(name_in(&STATUSES, version.status))),
+        version.map_or(Cell::Nothing, |version| counts(0, version)),
+        version.map_or(Cell::Nothing, |version| counts(1, version)),
+    ]);
+}
+
+/// Each active point's series with its versions, and whether they count in run 1 and run 2.
+pub fn points(wanted: &Wanted) -> Result<i32, Failure> {
+    let ran = month::run(&wanted.file)?;
+    let mut sheet = Sheet::new(wanted.form, POINTS);
+    for point in &ran.replay.points {
+        let mut versions = ran
+            .replay
+            .versions
+            .iter()
+            .filter(|version| version.point == point.number)
+            .peekable();
+        if versions.peek().is_none() {
+            point_row(&mut sheet, point, None);
+        }
+        versions.for_each(|version| point_row(&mut sheet, point, Some(version)));
+    }
+    told(&ran, sheet)
+}

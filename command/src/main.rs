@@ -1,0 +1,66 @@
+//! `desk`: a month of calls through the proved settlement desk, told in words.
+#![no_main]
+
+mod arguments;
+mod calls;
+mod causes;
+mod csv;
+mod help;
+mod input;
+mod library;
+mod lists;
+mod month;
+mod output;
+mod page;
+mod refusals;
+mod sheet;
+mod summary;
+mod text;
+
+use arguments::{Command, Wanted};
+use output::Failure;
+
+/// Everything was accepted.
+pub const ACCEPTED: i32 = 0;
+/// Some calls were refused, or the file is damaged behind answered calls.
+pub const REFUSED: i32 = 1;
+/// Nothing could be run, or the output could not be written.
+pub const NOTHING: i32 = 2;
+
+/// The program's own start, and not Rust's: that one opens closed streams on nothing, and a closed output would pass for a written one.
+#[no_mangle]
+pub extern "C" fn main() -> i32 {
+    let words = std::env::args_os()
+        .skip(1)
+        .map(|word| word.to_string_lossy().into_owned())
+        .collect();
+    let outcome = output::streams()
+        .and_then(|()| arguments::read(words))
+        .and_then(|wanted| perform(&wanted));
+    outcome.unwrap_or_else(|failure| {
+        failure.tell();
+        failure.status
+    })
+}
+
+fn perform(wanted: &Wanted) -> Result<i32, Failure> {
+    match wanted.command {
+        Command::Overview => said(&help::overview()),
+        Command::HelpOn(name) => said(&help::on(name)),
+        Command::Manual => said(&help::manual()),
+        Command::Version => said(&help::version()),
+        Command::Causes => causes::tell(&wanted.words, wanted.form),
+        Command::Run => summary::run(wanted),
+        Command::Figures => lists::figures(wanted),
+        Command::Log => lists::log(wanted),
+        Command::Points => lists::points(wanted),
+        Command::Page => page::write(wanted),
+        Command::Pack => text::pack(wanted),
+        Command::Print => text::print(wanted),
+    }
+}
+
+fn said(text: &str) -> Result<i32, Failure> {
+    output::write(text.as_bytes())?;
+    Ok(ACCEPTED)
+}

@@ -1,0 +1,453 @@
+//! What was refused, in words: why, by the calls before it that the library accepted, and what would mend it.
+
+use std::collections::HashMap;
+
+use crate::calls::{counted, Call, ACTIVATE, ASSIGN, DEACTIVATE, NOTICE, OPEN, SETTLE, SUBMIT};
+use crate::causes;
+use crate::library::Reader;
+use crate::month::Ran;
+
+/// A refused call.
+pub struct Refusal<'a> {
+    pub call: &'a Call,
+    pub number: u64,
+    pub why: String,
+    pub mend: String,
+    /// The earlier call that it comes from.
+    pub from: Option<&'a Call>,
+}
+
+impl Refusal<'_> {
+    /// `line 13, call 12: submit point 4 version 2: refused, 5: ..`
+    pub fn line(&self) -> String {
+        format!(
+            "{}: {}: refused, {}: {}",
+            self.call.place.whole(),
+            self.call.title(),
+            self.number,
+            self.why
+        )
+    }
+}
+
+/// The calls that the library accepted so far, by what they set, and those that it refused.
+#[derive(Default)]
+struct Before<'a> {
+    opened: Option<&'a Call>,
+    day: Option<&'a Call>,
+    active: HashMap<u64, &'a Call>,
+    freed: HashMap<u64, &'a Call>,
+    submitted: HashMap<(u64, u64), &'a Call>,
+    noticed: HashMap<(u64, u64), &'a Call>,
+    settled: HashMap<u64, &'a Call>,
+    /// The last refused call of a kind on a point and a version, with its number.
+    refused: HashMap<(u64, u64, u64), (&'a Call, u64)>,
+}
+
+/// A refusal's words: why, what would mend it, the call that it comes from.
+type Words<'a> = (String, String, Option<&'a Call>);
+
+/// The places of a point and a version in the calls that have them; elsewhere 0.
+fn about(call: &Call) -> (u64, u64) {
+    (call.field("point"), call.field("version"))
+}
+
+impl<'a> Before<'a> {
+    fn accept(&mut self, call: &'a Call) {
+        let (point, version) = about(call);
+        match call.kind {
+            OPEN => self.opened = Some(call),
+            ACTIVATE => {
+                self.active.insert(point, call);
+            }
+            DEACTIVATE => {
+                self.active.remove(&point);
+                self.freed.insert(point, call);
+            }
+            SUBMIT => {
+                self.submitted.insert((point, version), call);
+            }
+            NOTICE if call.field("verdict") == 1 => {
+                self.noticed.insert((point, version), call);
+            }
+            SETTLE => {
+                self.settled.insert(call.field("run"), call);
+            }
+            _ => {}
+        }
+        if call.has_day() {
+            self.day = Some(call);
+        }
+    }
+
+    fn refuse(&mut self, call: &'a Call, number: u64) {
+        let (point, version) = about(call);
+        self.refused.insert((call.kind, point, version), (call, number));
+    }
+
+    /// A field of the opening.
+    fn opening(&self, field: &str) -> u64 {
+        self.opened.map_or(0, |call| call.field(field))
+    }
+
+    fn opening_place(&self) -> String {
+        self.opened.map_or(String::new(), |call| call.place.short())
+    }
+
+    /// The highest version of a point that was submitted.
+    fn highest(&self, point: u64) -> Option<&'a Call> {
+        self.submitted
+            .values()
+            .filter(|call| call.field("point") == point)
+            .max_by_key(|call| call.field("version"))
+            .copied()
+    }
+
+    fn words(&self, call: &'a Call, number: u64, energies: &[i64]) -> Words<'a> {
+        let fallback = || (causes::meaning(number), causes::mend(number), None);
+        match number {
+            1 => self.not_open(),
+            3 => self.bad_field(call, energies),
+            4 => bad_opening(call),
+            5 | 11 | 26 | 27 => self.bad_day(call, number),
+            6 => (
+                format!("{} opened the desk", self.opening_place()),
+                causes::mend(6),
+                self.opened,
+            ),
+            21 | 22 | 12 | 23 | 13 => self.bad_point(call, number).unwrap_or_else(fallback),
+            14 | 15 | 24 | 25 => self.bad_version(call, number).unwrap_or_else(fallback),
+            28 => {
+                let run = call.field("run");
+                let by = self.settled.get(&run).copied();
+                (
+                    format!("{} settled run {run}", by.map_or(String::new(), |by| by.place.short())),
+                    causes::mend(28),
+                    by,
+                )
+            }
+            29 => (
+                "run 1 is not settled yet".to_string(),
+                "put `settle run=1` in front of it".to_string(),
+                None,
+            ),
+            _ => fallback(),
+        }
+    }
+
+    fn not_open(&self) -> Words<'a> {
+        match self.refused.get(&(OPEN, 0, 0)) {
+            Some((by, number)) => {
+                let place = by.place.short();
+                (
+                    format!("the desk is not open: the opening of {place} was refused, {number}"),
+                    format!("correct {place}"),
+                    Some(by),
+                )
+            }
+            None => (
+                "the desk is not open: no opening stands in front".to_string(),
+                "put an `open` line in front of all others".to_string(),
+                None,
+            ),
+        }
+    }
+
+    fn bad_day(&self, call: &'a Call, number: u64) -> Words<'a> {
+        let day = call.field("day");
+        let (deadline, name) = match (number, call.field("run")) {
+            (11, _) | (27, 2) => ("correction", "correction deadline"),
+            _ => ("clearing", "clearing deadline"),
+        };
+        let limit = self.opening(deadline);
+        let opening = self.opening_place();
+        match number {
+            5 => {
+                let desk = self.day.map_or(0, |by| by.field("day"));
+                let by = self.day.map_or(opening, |by| by.place.short());
+                let why = format!("day {day} lies before the desk's day {desk}, which {by} set");
+                (
+                    why,
+                    format!("give it day {desk} or later; if day {desk} is a mistake, correct {by}"),
+                    self.day,
+                )
+            }
+            27 => {
+                let why = format!("day {day} does not lie behind the {name}, day {limit} ({opening})");
+                (
+                    why,
+                    format!("settle run {} on day {} or later", call.field("run"), limit + 1),
+                    None,
+                )
+            }
+            _ => {
+                let why = format!("day {day} lies behind the {name}, day {limit} ({opening})");
+                (
+                    why,
+                    format!("the last day for it is {limit}; correct the day, or leave the call out"),
+                    None,
+                )
+            }
+        }
+    }
+
+    fn bad_point(&self, call: &'a Call, number: u64) -> Option<Words<'a>> {
+        let point = call.field("point");
+        let by = self.active.get(&point).copied();
+        Some(match number {
+            21 => {
+                let place = by?.place.short();
+                (
+                    format!("point {point} is active since {place}"),
+                    "take a free point, or deactivate it first".to_string(),
+                    by,
+                )
+            }
+            22 => {
+                let series = |call: &Call| ["kind", "area", "partner"].map(|name| call.field(name));
+                let same = self.active.values().find(|other| series(other) == series(call)).copied()?;
+                let (other, place) = (same.field("point"), same.place.short());
+                let why = format!("point {other} has the same kind, area and partner ({place})");
+                (
+                    why,
+                    format!("use point {other}, or correct kind, area or partner"),
+                    Some(same),
+                )
+            }
+            12 => self.not_active(point),
+            23 => {
+                let kept = self.highest(point)?;
+                let why = format!("point {point} has version {} ({})", kept.field("version"), kept.place.short());
+                (why, causes::mend(23), Some(kept))
+            }
+            _ => {
+                let since = by?.field("day");
+                let why = format!(
+                    "day {} lies less than two days after day {since}, on which {} activated point {point}",
+                    call.field("day"),
+                    by?.place.short()
+                );
+                (why, format!("submit on day {} or later", since + 2), by)
+            }
+        })
+    }
+
+    fn not_active(&self, point: u64) -> Words<'a> {
+        if let Some(by) = self.freed.get(&point) {
+            let place = by.place.short();
+            return (
+                format!("point {point} is free: {place} deactivated it"),
+                "activate it again, or correct the point".to_string(),
+                Some(by),
+            );
+        }
+        if let Some((by, number)) = self.refused.get(&(ACTIVATE, point, 0)) {
+            let place = by.place.short();
+            let why = format!("point {point} is not active: its activation in {place} was refused, {number}");
+            return (why, format!("correct {place}"), Some(by));
+        }
+        (
+            format!("point {point} is not active: no call in front activates it"),
+            format!("put `activate point={point} ..` in front, or correct the point"),
+            None,
+        )
+    }
+
+    fn bad_version(&self, call: &'a Call, number: u64) -> Option<Words<'a>> {
+        let (point, version) = about(call);
+        let by = self.submitted.get(&(point, version)).copied();
+        let highest = self.highest(point);
+        let next = highest.map_or(1, |call| call.field("version") + 1);
+        Some(match number {
+            14 => {
+                let why = format!("point {point} has version {version} already ({})", by?.place.short());
+                (why, format!("take version {next} or higher, or leave the call out"), by)
+            }
+            15 => {
+                let why = format!(
+                    "version {version} lies below version {}, which {} submitted",
+                    highest?.field("version"),
+                    highest?.place.short()
+                );
+                (why, format!("take version {next} or higher"), highest)
+            }
+            24 => self.no_version(point, version, highest),
+            _ => {
+                if let Some(notice) = self.noticed.get(&(point, version)) {
+                    let why = format!(
+                        "version {version} is no check data: {} gave it its positive notice",
+                        notice.place.short()
+                    );
+                    return Some((why, "nothing: it counts already".to_string(), Some(notice)));
+                }
+                let (by, limit) = (by?, self.opening("first"));
+                let why = format!(
+                    "version {version} is no check data: {} submitted it on day {}, and the first delivery lasts to day {limit}",
+                    by.place.short(),
+                    by.field("day")
+                );
+                (why, "nothing: it counts without a notice".to_string(), Some(by))
+            }
+        })
+    }
+
+    fn no_version(&self, point: u64, version: u64, highest: Option<&'a Call>) -> Words<'a> {
+        if let Some((by, number)) = self.refused.get(&(SUBMIT, point, version)) {
+            let place = by.place.short();
+            let why = format!("point {point} has no version {version}: its submission in {place} was refused, {number}");
+            return (why, format!("correct {place}"), Some(by));
+        }
+        let has = match highest {
+            Some(call) => format!("its highest is {}, of {}", call.field("version"), call.place.short()),
+            None => "it has no version at all".to_string(),
+        };
+        (
+            format!("point {point} has no version {version}: {has}"),
+            "name a version that was submitted".to_string(),
+            None,
+        )
+    }
+
+    fn bad_field(&self, call: &'a Call, energies: &[i64]) -> Words<'a> {
+        let mut wrong = ranges(call);
+        if call.kind == ACTIVATE && wrong.is_empty() {
+            return (
+                unfit(call),
+                "put kind, area and partner together as README's table of series has them".to_string(),
+                None,
+            );
+        }
+        let quarters = self.opening("quarters");
+        if call.kind == SUBMIT && call.energies as u64 != quarters {
+            wrong.push(format!(
+                "the series has {}, and the month {quarters} quarter hours ({})",
+                counted(call.energies, "energ", "y", "ies"),
+                self.opening_place()
+            ));
+        }
+        let beyond = energies.iter().position(|energy| energy.unsigned_abs() > MOST_ENERGY);
+        if let Some(at) = beyond.filter(|_| call.kind == SUBMIT) {
+            wrong.push(format!(
+                "the energy of quarter hour {}, {}, is beyond {MOST_ENERGY} watt-hours",
+                at + 1,
+                energies[at]
+            ));
+        }
+        if wrong.is_empty() {
+            return (causes::meaning(3), causes::mend(3), None);
+        }
+        (wrong.join("; "), "correct what is named".to_string(), None)
+    }
+}
+
+const MOST_ENERGY: u64 = 1_000_000_000_000;
+
+/// What each field may be.
+fn range(kind: u64, field: &str) -> (u64, u64) {
+    match (kind, field) {
+        (_, "point") => (1, 256),
+        (_, "version") => (1, 99_999_999_999_999),
+        (_, "day") => (0, 400),
+        (_, "kind") => (1, 5),
+        (_, "verdict") => (0, 1),
+        (_, "run") => (1, 2),
+        (_, "group") | (ACTIVATE, "partner") => ((kind == ASSIGN) as u64, 64),
+        (_, "area") => (0, 16),
+        _ => (0, u64::MAX),
+    }
+}
+
+/// The fields that are outside their ranges.
+fn ranges(call: &Call) -> Vec<String> {
+    let outside = |(name, number): (&&str, &u64)| {
+        let (least, most) = range(call.kind, name);
+        (*number < least || *number > most).then(|| format!("{name} {number} is not {least} to {most}"))
+    };
+    call.form().fields.iter().zip(&call.fields).filter_map(outside).collect()
+}
+
+/// Kind, area and partner that do not go together.
+fn unfit(call: &Call) -> String {
+    let [kind, area, partner] = ["kind", "area", "partner"].map(|name| call.field(name));
+    let takes = match kind {
+        1 => "an exchange takes an area a of 1 to 16 and a partner of 0 (the outside) to a - 1",
+        2 => "a group sum takes an area of 1 to 16 and as partner a group of 1 to 64",
+        4 => "an operator's group sum takes area 0 and as partner a group of 1 to 64",
+        3 => "an area sum takes an area of 1 to 16 and partner 0",
+        _ => "a delta transfer takes an area of 1 to 16 and partner 0",
+    };
+    format!("kind {kind} with area {area} and partner {partner} do not go together: {takes}")
+}
+
+fn bad_opening(call: &Call) -> Words<'_> {
+    let mut wrong = Vec::new();
+    let [quarters, first, clearing, correction] = ["quarters", "first", "clearing", "correction"].map(|name| call.field(name));
+    if !(1..=2980).contains(&quarters) {
+        wrong.push(format!("quarters {quarters} is not 1 to 2980"));
+    }
+    if !(1 <= first && first < clearing && clearing < correction && correction <= 399) {
+        wrong.push(format!(
+            "deadlines {first}, {clearing}, {correction} do not rise from 1 to 399"
+        ));
+    }
+    for (name, group) in call.form().fields.iter().zip(&call.fields).skip(4) {
+        if !(1..=64).contains(group) {
+            wrong.push(format!(
+                "the delta group of {} is {group}, not 1 to 64",
+                if *name == "T" {
+                    "T".to_string()
+                } else {
+                    format!("area {name}")
+                }
+            ));
+        }
+    }
+    if wrong.is_empty() {
+        return (causes::meaning(4), causes::mend(4), None);
+    }
+    (wrong.join("; "), "correct what is named".to_string(), None)
+}
+
+/// Every refused call of a month.
+pub fn of(ran: &Ran) -> Vec<Refusal<'_>> {
+    let mut before = Before::default();
+    let mut refusals = Vec::new();
+    for (call, answer) in ran.month.calls.iter().zip(&ran.replay.answers) {
+        if *answer == 0 {
+            before.accept(call);
+            continue;
+        }
+        let mut reader = Reader::from(&ran.month.file, call.place.offset);
+        let energies: Vec<i64> = match *answer == 3 && call.kind == SUBMIT {
+            true => {
+                reader.next();
+                reader.energies(call.energies).collect()
+            }
+            false => Vec::new(),
+        };
+        let (why, mend, from) = before.words(call, *answer, &energies);
+        refusals.push(Refusal {
+            call,
+            number: *answer,
+            why,
+            mend,
+            from,
+        });
+        before.refuse(call, *answer);
+    }
+    refusals
+}
+
+/// The earlier calls that several refusals come from, with how many, in the file's order.
+pub fn sources<'a>(refusals: &[Refusal<'a>]) -> Vec<(&'a Call, usize)> {
+    let mut sources: Vec<(&Call, usize)> = Vec::new();
+    for from in refusals.iter().filter_map(|refusal| refusal.from) {
+        match sources.iter_mut().find(|(call, _)| call.place.number == from.place.number) {
+            Some((_, count)) => *count += 1,
+            None => sources.push((from, 1)),
+        }
+    }
+    sources.retain(|(_, count)| *count > 1);
+    sources.sort_by_key(|(call, _)| call.place.number);
+    sources
+}

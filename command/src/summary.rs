@@ -1,0 +1,212 @@
+//! `desk run`: what was refused and why, then the month in short.
+
+use crate::arguments::Wanted;
+use crate::calls::counted;
+use crate::library::{LogRow, Replay, GROUPS};
+use crate::month::{self, Ran};
+use crate::output::{self, Failure};
+use crate::refusals::{self, Refusal};
+use crate::{ACCEPTED, REFUSED};
+
+/// Colours where the output is a terminal.
+struct Paint {
+    on: bool,
+}
+
+impl Paint {
+    fn mark(&self, code: &str, text: &str) -> String {
+        if self.on {
+            format!("\x1b[{code}m{text}\x1b[0m")
+        } else {
+            text.to_string()
+        }
+    }
+
+    fn red(&self, text: &str) -> String {
+        self.mark("31", text)
+    }
+
+    fn green(&self, text: &str) -> String {
+        self.mark("32", text)
+    }
+
+    fn bold(&self, text: &str) -> String {
+        self.mark("1", text)
+    }
+
+    fn faint(&self, text: &str) -> String {
+        self.mark("2", text)
+    }
+}
+
+/// A number with its digits in groups of three, for people.
+pub fn grouped(number: i64) -> String {
+    let digits = number.unsigned_abs().to_string();
+    let mut out = String::new();
+    for (at, digit) in digits.chars().enumerate() {
+        if at > 0 && (digits.len() - at) % 3 == 0 {
+            out.push(' ');
+        }
+        out.push(digit);
+    }
+    if number < 0 {
+        format!("-{out}")
+    } else {
+        out
+    }
+}
+
+fn count(number: usize, what: &str) -> String {
+    counted(number, what, "", "s")
+}
+
+fn told(refusals: &[Refusal], paint: &Paint) -> String {
+    let mut text = String::new();
+    for refusal in refusals {
+        let line = refusal.line();
+        let (front, back) = line.split_once(": refused, ").unwrap_or((&line, ""));
+        text.push_str(&format!("{front}: {}\n", paint.red(&format!("refused, {back}"))));
+        text.push_str(&paint.faint(&format!("    to mend it: {}", refusal.mend)));
+        text.push('\n');
+    }
+    for (call, times) in refusals::sources(refusals) {
+        let line = format!(
+            "{} of these come from {}: {}; look there first",
+            times,
+            call.place.short(),
+            call.title()
+        );
+        text.push_str(&format!("{}\n", paint.bold(&line)));
+    }
+    if !text.is_empty() {
+        text.push('\n');
+    }
+    text
+}
+
+/// Log rows that put another version in the place of one, with the version before.
+pub fn changes(log: &[LogRow]) -> Vec<(u64, LogRow)> {
+    let before = |at: usize, row: &LogRow| {
+        log[..at]
+            .iter()
+            .rev()
+            .find(|old| old.point == row.point && old.run == row.run)
+    };
+    log.iter()
+        .enumerate()
+        .filter_map(|(at, row)| before(at, row).map(|old| (old.version, *row)))
+        .collect()
+}
+
+/// The most changes of a selection that the summary names one by one.
+const NAMED: usize = 20;
+
+fn selection(replay: &Replay, name: &str) -> String {
+    let changes = changes(&replay.log);
+    if changes.is_empty() {
+        return String::new();
+    }
+    let mut text = format!("\n{}\n", count(changes.len(), "selection") + " changed after the first");
+    for (old, row) in changes.iter().take(NAMED) {
+        text.push_str(&format!(
+            "    day {}: point {}, run {}: version {} in the place of {old}\n",
+            row.day, row.point, row.run, row.version
+        ));
+    }
+    if changes.len() > NAMED {
+        text.push_str(&format!("    and {} more: desk log {name}\n", changes.len() - NAMED));
+    }
+    text
+}
+
+fn groups(replay: &Replay, paint: &Paint) -> String {
+    let rows: Vec<(u64, i64, i64, i64)> = (1..=GROUPS)
+        .map(|group| {
+            (
+                group,
+                replay.sum(1, group - 1),
+                replay.sum(2, group - 1),
+                replay.difference(group - 1),
+            )
+        })
+        .filter(|(_, first, second, _)| *first != 0 || *second != 0)
+        .collect();
+    if rows.is_empty() {
+        return "\nevery group's month is 0\n".to_string();
+    }
+    let mut text = format!(
+        "\n{}\n",
+        paint.bold(&format!(
+            "{:>5}  {:>22}  {:>22}  {:>22}",
+            "group", "run 1, Wh", "run 2, Wh", "difference, Wh"
+        ))
+    );
+    for (group, first, second, difference) in rows {
+        let line = format!(
+            "{group:>5}  {:>22}  {:>22}  {:>22}",
+            grouped(first),
+            grouped(second),
+            grouped(difference)
+        );
+        text.push_str(&if difference == 0 { line } else { paint.bold(&line) });
+        text.push('\n');
+    }
+    text
+}
+
+fn settled(replay: &Replay) -> &'static str {
+    match replay.settled {
+        [false, false] => "no run settled",
+        [true, false] => "run 1 settled",
+        [false, true] => "run 2 settled",
+        [true, true] => "runs 1 and 2 settled",
+    }
+}
+
+/// What stands first in the summary, on the page too.
+pub fn headline(ran: &Ran) -> String {
+    let replay = &ran.replay;
+    let calls = count(replay.answers.len(), "call");
+    let refused = if replay.refused == 0 {
+        "none refused".to_string()
+    } else {
+        format!("{} refused", replay.refused)
+    };
+    if replay.quarters == 0 {
+        return format!("{calls}, {refused}; the desk is not open");
+    }
+    format!(
+        "{calls}, {refused}; day {}; {}; {}",
+        replay.day,
+        settled(replay),
+        count(replay.quarters, "quarter hour")
+    )
+}
+
+/// `desk run`.
+pub fn run(wanted: &Wanted) -> Result<i32, Failure> {
+    let ran = month::run(&wanted.file)?;
+    let paint = Paint { on: output::colours() };
+    let refusals = refusals::of(&ran);
+    let mut text = told(&refusals, &paint);
+    if let Some(damage) = ran.damage() {
+        text.push_str(&format!("{}\n\n", paint.red(&format!("{}: {damage}", ran.month.name))));
+    }
+    let status = ran.status();
+    let headline = headline(&ran);
+    text.push_str(&if status == ACCEPTED {
+        paint.green(&headline)
+    } else {
+        paint.red(&headline)
+    });
+    text.push('\n');
+    if let Some(first) = refusals.first().filter(|_| status == REFUSED) {
+        text.push_str(&format!("the first refused: {}\n", first.call.place.whole()));
+    }
+    if ran.replay.quarters > 0 {
+        text.push_str(&selection(&ran.replay, &ran.month.name));
+        text.push_str(&groups(&ran.replay, &paint));
+    }
+    output::write(text.as_bytes())?;
+    Ok(status)
+}

@@ -1,0 +1,244 @@
+//! Months as text: one call a line with its fields by name, packed to a message file and printed from one.
+
+use std::io::{self, IsTerminal};
+use std::path::Path;
+
+use crate::arguments::Wanted;
+use crate::calls::{Call, Place, DELTAS, KINDS, OPEN, SUBMIT};
+use crate::csv::{self, quoted, Unit};
+use crate::library::{self, Read, Reader};
+use crate::output::{self, Failure};
+use crate::{causes, input, ACCEPTED, NOTHING, REFUSED};
+
+/// A line's fields by name, each once.
+struct Given<'a> {
+    call: &'static str,
+    fields: Vec<(&'a str, &'a str)>,
+}
+
+impl<'a> Given<'a> {
+    fn read(call: &'static str, words: &[&'a str]) -> Result<Given<'a>, String> {
+        let mut fields: Vec<(&str, &str)> = Vec::new();
+        for word in words {
+            let (name, value) = word.split_once('=').unwrap_or(("", ""));
+            if name.is_empty() || value.is_empty() {
+                return Err(format!("a field is written name=number: {}", quoted(word)));
+            }
+            if fields.iter().any(|(other, _)| *other == name) {
+                return Err(format!("{name} stands twice"));
+            }
+            fields.push((name, value));
+        }
+        Ok(Given { call, fields })
+    }
+
+    /// Takes a field away.
+    fn take(&mut self, name: &str) -> Option<&'a str> {
+        let at = self.fields.iter().position(|(other, _)| *other == name)?;
+        Some(self.fields.remove(at).1)
+    }
+
+    /// The numbers of the fields named; each is there, and nothing else is.
+    fn numbers(mut self, names: &[&str], others: Option<&'a str>, further: &str) -> Result<Vec<u64>, String> {
+        if let Some((name, _)) = self.fields.iter().find(|(name, _)| !names.contains(name)) {
+            return Err(format!(
+                "{} has no field {}; its fields are {}{further}",
+                self.call,
+                quoted(name),
+                names.join(", ")
+            ));
+        }
+        let stands = |name: &str| if DELTAS.contains(&name) { others } else { None };
+        let values: Vec<(&str, Option<&str>)> = names
+            .iter()
+            .map(|name| (*name, self.take(name).or_else(|| stands(name))))
+            .collect();
+        let missing: Vec<&str> = values
+            .iter()
+            .filter(|(_, value)| value.is_none())
+            .map(|(name, _)| *name)
+            .collect();
+        if !missing.is_empty() {
+            return Err(format!("{} lacks {}", self.call, missing.join(", ")));
+        }
+        values
+            .iter()
+            .map(|(name, value)| csv::field(name, value.unwrap_or("")))
+            .collect()
+    }
+}
+
+fn unit_of(word: Option<&str>) -> Result<Unit, String> {
+    match word {
+        None | Some("Wh") => Ok(Unit::WattHours),
+        Some("kWh") => Ok(Unit::KilowattHours),
+        Some(other) => Err(format!("unit is Wh or kWh: {}", quoted(other))),
+    }
+}
+
+/// A line's call and its energies.
+fn call_of(words: &[&str], folder: &Path) -> Result<(u64, Vec<u64>, Vec<u64>), String> {
+    let Some(at) = KINDS.iter().position(|kind| kind.name == words[0]) else {
+        let names: Vec<&str> = KINDS.iter().map(|kind| kind.name).collect();
+        return Err(format!(
+            "there is no call {}; calls are {}",
+            quoted(words[0]),
+            names.join(", ")
+        ));
+    };
+    let (kind, form) = (at as u64 + 1, &KINDS[at]);
+    let mut given = Given::read(form.name, &words[1..])?;
+    match kind {
+        OPEN => {
+            let others = given.take("others");
+            if let Some(word) = others {
+                csv::field("others", word)?;
+            }
+            Ok((kind, given.numbers(form.fields, others, ", others")?, Vec::new()))
+        }
+        SUBMIT => {
+            let unit = unit_of(given.take("unit"))?;
+            let series = given.take("energies");
+            let fields = given.numbers(form.fields, None, ", energies, unit");
+            let Some(series) = series else {
+                return Err(fields.err().unwrap_or("submit lacks energies".to_string()));
+            };
+            Ok((kind, fields?, csv::energies(series, unit, folder)?))
+        }
+        _ => Ok((kind, given.numbers(form.fields, None, "")?, Vec::new())),
+    }
+}
+
+/// The words of a line in front of its comment.
+fn words_of(line: &[u8]) -> Result<Vec<&str>, String> {
+    let content = line.split(|byte| *byte == b'#').next().unwrap_or(line);
+    let text =
+        std::str::from_utf8(content).map_err(|_| "has bytes that are no text in UTF-8, and not in a comment".to_string())?;
+    Ok(text.split([' ', '\t']).filter(|word| !word.is_empty()).collect())
+}
+
+/// Whether a carriage return stands in front of a line's comment.
+fn has_return(line: &[u8]) -> bool {
+    line.iter().take_while(|byte| **byte != b'#').any(|byte| *byte == b'\r')
+}
+
+/// The message file of a text, with its calls; or what is wrong with each bad line.
+pub fn packed(text: &[u8], folder: &Path) -> Result<(Vec<u8>, Vec<Call>), Vec<String>> {
+    let returns = text.split(|byte| *byte == b'\n').filter(|line| has_return(line)).count();
+    if returns > 0 {
+        let first = text.split(|byte| *byte == b'\n').position(has_return).unwrap_or(0) + 1;
+        return Err(vec![format!(
+            "line {first}: has a carriage return, as {returns} lines have; line ends are line feeds alone"
+        )]);
+    }
+    let (mut file, mut calls, mut complaints) = (Vec::new(), Vec::new(), Vec::new());
+    for (at, line) in text.split(|byte| *byte == b'\n').enumerate() {
+        let line_number = at + 1;
+        let place = Place {
+            line: line_number,
+            number: calls.len() + 1,
+            offset: file.len(),
+        };
+        let packed = words_of(line).and_then(|words| {
+            if words.is_empty() {
+                return Ok(None);
+            }
+            let (kind, fields, energies) = call_of(&words, folder)?;
+            library::write(kind, &fields, &energies, &mut file).map_err(causes::meaning)?;
+            Ok(Some(Call {
+                place,
+                kind,
+                fields,
+                energies: energies.len(),
+            }))
+        });
+        match packed {
+            Ok(call) => calls.extend(call),
+            Err(wrong) => complaints.push(format!("line {line_number}: {wrong}")),
+        }
+    }
+    if complaints.is_empty() {
+        Ok((file, calls))
+    } else {
+        Err(complaints)
+    }
+}
+
+/// The bytes to the file that is asked for, or to standard output.
+fn deliver(wanted: &Wanted, bytes: &[u8]) -> Result<(), Failure> {
+    match &wanted.to {
+        Some(name) => output::write_file(name, bytes),
+        None => output::write(bytes),
+    }
+}
+
+/// `desk pack`.
+pub fn pack(wanted: &Wanted) -> Result<i32, Failure> {
+    if wanted.to.is_none() && io::stdout().is_terminal() {
+        return Err(Failure::new(
+            "a message file is bytes: name a file with -o, or send the output to one",
+        ));
+    }
+    let bytes = input::read(&wanted.file)?;
+    let shown = input::shown(&wanted.file);
+    if !bytes.is_empty() && !input::is_text(&bytes) && !bytes.iter().all(u8::is_ascii_whitespace) {
+        return Err(Failure::new(format!(
+            "{shown}: is no text; `desk print` shows a message file as text"
+        )));
+    }
+    let month = input::packed(&wanted.file, &bytes)?;
+    if month.calls.is_empty() {
+        output::warn(&format!("{shown}: has no calls; the message file is empty"));
+    }
+    deliver(wanted, &month.file)?;
+    Ok(ACCEPTED)
+}
+
+/// A call as a line.
+fn line_of(call: &Call, reader: &Reader) -> String {
+    let mut line = call.form().name.to_string();
+    for (name, number) in call.form().fields.iter().zip(&call.fields) {
+        line.push_str(&format!(" {name}={number}"));
+    }
+    if call.kind == SUBMIT {
+        let energies: Vec<String> = reader.energies(call.energies).map(|energy| energy.to_string()).collect();
+        line.push_str(" energies=");
+        line.push_str(if energies.is_empty() { "none" } else { "" });
+        line.push_str(&energies.join(","));
+    }
+    line
+}
+
+/// `desk print`.
+pub fn print(wanted: &Wanted) -> Result<i32, Failure> {
+    let bytes = input::read(&wanted.file)?;
+    let file = if input::is_text(&bytes) {
+        input::packed(&wanted.file, &bytes)?.file
+    } else {
+        bytes
+    };
+    let mut reader = Reader::new(&file);
+    let mut text = String::new();
+    let status = loop {
+        match reader.next() {
+            Read::Call(call) => {
+                let offset = call.offset;
+                text.push_str(&format!("{}  # offset {offset}\n", line_of(&call.into(), &reader)));
+            }
+            Read::End => break ACCEPTED,
+            Read::Refused(number, offset) => {
+                let status = if text.is_empty() { NOTHING } else { REFUSED };
+                text.push_str(&format!(
+                    "# refused with {number} at offset {offset}: {}\n",
+                    causes::meaning(number)
+                ));
+                break status;
+            }
+        }
+    };
+    if file.is_empty() {
+        output::warn(&format!("{}: is empty: it has no calls", input::shown(&wanted.file)));
+    }
+    deliver(wanted, text.as_bytes())?;
+    Ok(status)
+}
