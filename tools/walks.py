@@ -1,22 +1,22 @@
 #!/usr/bin/env python3
-"""Writes the proofs of the functions of crate `entry` that lend the desk: walks of their code, step by step, for the prover to check.
+"""Writes the proofs of the functions that lend the desk: walks of their code, step by step, for the prover to check.
 
-    python3 tools/walks.py                  all of them, or one:
-    python3 tools/walks.py open             crates/entry/proofs/open/open/Proof.antt
-    python3 tools/walks.py submit           crates/entry/proofs/submit/submit/Proof.antt
-    python3 tools/walks.py apply            crates/entry/proofs/apply/apply/Proof.antt
-    python3 tools/walks.py via_open         crates/entry/proofs/via/via_open/Proof.antt
-    python3 tools/walks.py via_submit       crates/entry/proofs/via/via_submit/Proof.antt
-    python3 tools/walks.py via_apply        crates/entry/proofs/via/via_apply/Proof.antt
+    python3 tools/walks.py             into the repository
+    python3 tools/walks.py FOLDER      into another folder, at the same places
 
-Run it where a function's parameters change. It reads them from crates/entry/src; the same sources give the same files. Two forms are known:
+    crates/entry/proofs/open/open/Proof.antt
+    crates/entry/proofs/apply/apply/Proof.antt
+    crates/test_script/proofs/via/via_open/Proof.antt
+    crates/test_script/proofs/via/via_apply/Proof.antt
+
+Run it where a function's parameters change. It reads them from the crates' sources; the same sources give the same files. Two forms are known:
 
     an entry     pub fn F(d: &mut Desk, p..) -> Answer { let out = CORE(*d, p..); *d = out.desk; out.answer }
     a way back   pub fn V(d: Desk, p..) -> Outcome { let mut e = d; let a = F(&mut e, p..); Outcome { answer: a, desk: e } }
 
 The callee takes the same parameters in the same order, and its contract says of `d`, `r .answer` and `r .desk` what the entry's says of
 `now (d .entry)`, `r` and `now (d .exit)`: then the clauses are the same by conversion, and no proof repeats one. A parameter is a u64, an
-array of them, a slice of them lent by & or &mut, or a struct or enum of our crates. What the walks share is proofs/Lent.antt.
+array of them, a slice of them lent by & or &mut, or a struct or enum of our crates. What the walks share is proofs/Lent.antt of `entry`.
 """
 import re
 import sys
@@ -24,8 +24,9 @@ from dataclasses import dataclass
 from pathlib import Path
 
 ROOT = Path(__file__).resolve().parent.parent
-CRATE = 'entry'
-WALKS = {'open': 'open', 'submit': 'submit', 'apply': 'apply', 'via_open': 'via', 'via_submit': 'via', 'via_apply': 'via'}
+ENTRY = 'entry'
+# a function, its crate and its module there
+WALKS = {'open': (ENTRY, 'open'), 'apply': (ENTRY, 'apply'), 'via_open': ('test_script', 'via'), 'via_apply': ('test_script', 'via')}
 
 
 # ---- what the sources say
@@ -43,6 +44,7 @@ class Type:
 
 @dataclass
 class Function:
+    crate: str
     module: str
     name: str
     params: list
@@ -54,26 +56,38 @@ def quoted(name):
     return name.replace('_', '-')
 
 
-def declared(crate, name):
-    """The modules of a declared type, and the kind that it is."""
-    text = ''.join(p.read_text() for p in sorted((ROOT / 'crates' / crate / 'src').glob('*.rt')))
-    kind = re.search(rf'pub (struct|enum) {name}\b', text)
+def proofs_of(crate, here):
+    """The modules of a crate's proofs, as the crate `here` names them."""
+    return f'Rattle.{crate}.proofs' if crate == here else f'Rattle.{crate}.proofs'
+
+
+def sources(crate):
+    return ''.join(p.read_text() for p in sorted((ROOT / 'crates' / crate / 'src').glob('*.rt')))
+
+
+def kind_of(crate, name):
+    """Whether a declared type is a struct or an enum."""
+    kind = re.search(rf'pub (struct|enum) {name}\b', sources(crate))
     if not kind:
         sys.exit(f'{crate} declares no {name}')
-    return proofs_of(crate), kind.group(1)
+    return kind.group(1)
 
 
-def proofs_of(crate):
-    return f'Rattle.{CRATE}.proofs' if crate == CRATE else f'Rattle.{crate}.proofs'
+def constant(crate, name):
+    """The number that a constant is: a number, or a sum or product of numbers and constants beside it."""
+    value = re.search(rf'pub const {name}: \w+ = ([\w +*]+);', sources(crate))
+    if not value:
+        sys.exit(f'{crate} has no constant {name} that can be read')
+    return eval(re.sub(r'[A-Z]\w*', lambda other: str(constant(crate, other.group())), value.group(1)))
 
 
 def read_type(text, uses, named):
-    """The terms of a type; `named` gathers the declared ones."""
+    """The terms of a type; `named` gathers the declared ones, each with its crate."""
     if text == 'u64':
         return Type('u64', 'uint-vals w64', 'uint-tells w64', 'uint-lawful 𝓤 H A W w64')
-    array = re.fullmatch(r'\[u64; (\d+)\]', text)
+    array = re.fullmatch(r'\[u64; (\w+) as usize\]', text)
     if array:
-        n = array.group(1)
+        n = constant(uses[array.group(1)][0], array.group(1))
         return Type(f'Array u64 {n}', 'array-vals (uint-vals w64)', f'array-tells u64 (uint-vals w64) (uint-tells w64) {n}',
                     f'array-lawful 𝓤 H A W u64 (uint-lawful 𝓤 H A W w64) {n}')
     if text in ('&[u64]', '&mut [u64]'):
@@ -81,30 +95,26 @@ def read_type(text, uses, named):
         return Type('u64', 'slice-vals', f'{lent}-slice-tells', lent=lent)
     if text not in uses:
         sys.exit(f'no walk for a parameter of type {text}')
-    crate = uses[text][0]
-    modules, kind = declared(crate, text)
-    named[text] = modules
-    of, given = ('LL', '') if kind == 'struct' else ('EL', ' tt')
+    named[text] = uses[text][0]
+    of, given = ('LL', '') if kind_of(named[text], text) == 'struct' else ('EL', ' tt')
     both = f'{text}ᵀ.the-type {text}ᴸ.the-laws'
     return Type(f'{text}ᵀ.the-row', f'{of}.vals {both}', f'{of}.tells {both}', f'{of}.lawful {both} 𝓤 H A W{given}', name=text)
 
 
 def read_function(name, named):
-    module = WALKS[name]
-    text = (ROOT / 'crates' / CRATE / 'src' / f'{module}.rt').read_text()
+    crate, module = WALKS[name]
+    text = (ROOT / 'crates' / crate / 'src' / f'{module}.rt').read_text()
     uses = {}
     for path, alias in re.findall(r'^use ([\w:]+)(?: as (\w+))?;', text, re.M):
         steps = path.split('::')
-        if steps[0] == 'crate':
-            steps[0] = CRATE
         uses[alias or steps[-1]] = steps
     found = re.search(rf'pub fn {name}\((.*?)\) -> \w+\n(.*?)^}}', text, re.M | re.S)
     if not found:
-        sys.exit(f'src/{module}.rt has no function {name}')
+        sys.exit(f'src/{module}.rt of {crate} has no function {name}')
     params = [p.split(':', 1)[1].strip() for p in re.split(r',(?![^\[]*\])', found.group(1)) if p.strip()]
     callee = re.search(r'let \w+ = (\w+)\(', found.group(2)).group(1)
     types = [read_type(p, uses, named) for p in params[1:]]
-    return Function(module, name, types, tuple(uses[callee]), params[0].startswith('&mut'))
+    return Function(crate, module, name, types, tuple(uses[callee]), params[0].startswith('&mut'))
 
 
 # ---- terms
@@ -580,7 +590,7 @@ unfolding code.routine tablesOf
 '''
 
 
-# the names of the logic that a proof may use, by their modules
+# the names that a proof may use, by their modules; LENT is proofs/Lent.antt of `entry`
 NAMES = '''
 mathlib.Core.Path refl ap
 Prim.Native.Nat ℕ
@@ -625,9 +635,9 @@ denote.Triple.End lastsOf
 denote.Triple.Table entered cited
 denote.Triple.Walked Stays stay-ref walkOf goes-ref ends-at walked walk-meets
 Rattle.state.specs.declared.Desk Desk
-Rattle.verdict.specs.declared.Outcome Outcome
+Rattle.checks.specs.declared.Outcome Outcome
 Rattle.model.specs.declared.Answer Answer
-Rattle.entry.proofs.Lent said said-goes desk-val desk-vals desk-tells desk-offset answer-val answer-tells outcome-of outcome-val outcome-types outcome-parts outcome-tells parts-of whole-of lies-in lies-out
+LENT said said-goes desk-val desk-vals desk-tells desk-offset answer-val answer-tells outcome-of outcome-val outcome-types outcome-parts outcome-tells parts-of whole-of lies-in lies-out
 '''
 
 
@@ -637,22 +647,25 @@ def imports(f, named, body):
     lines = []
     for line in NAMES.split('\n'):
         module, *names = line.split() or ['']
+        if module == 'LENT':
+            module = f'{proofs_of(ENTRY, f.crate)}.Lent'
         present = [n for n in names if n.strip('_') in words or n in words]
         if present:
             lines.append(f"use {module}.{{{', '.join(present)}}}")
     for of, module in (('LL', 'denote.Struct.Laws'), ('EL', 'denote.Enum.Laws')):
         if of in words:
             lines.append(f'use {module} as {of}')
-    for name, modules in {'Desk': 'Rattle.state.proofs', 'Outcome': 'Rattle.verdict.proofs', 'Answer': 'Rattle.model.proofs', **named}.items():
-        lines += [f'use {modules}.{name} as {name}ᵀ', f'use {modules}.{name}.Laws as {name}ᴸ']
-    callee = '.'.join([proofs_of(f.callee[0]), *f.callee[1:]])
-    here = f'{proofs_of(CRATE)}.{f.module}.{f.name}'
+    for name, crate in {'Desk': 'state', 'Outcome': 'checks', 'Answer': 'model', **named}.items():
+        modules = f'{proofs_of(crate, f.crate)}.{name}'
+        lines += [f'use {modules} as {name}ᵀ', f'use {modules}.Laws as {name}ᴸ']
+    callee = '.'.join([proofs_of(f.callee[0], f.crate), *f.callee[1:]])
+    here = f'{proofs_of(f.crate, f.crate)}.{f.module}.{f.name}'
     lines += [f'use {callee} as callee', f'use {callee}.Symbol as callee-def', f'use {callee}.Symbol.{{name as #callee}}', f'use {callee}.Met as callee-thm',
               f'use {here} as here', f'use {here}.Key.{{name as #here}}', f'use {here}.Statement as stated', f'use {here}.Code as code']
     return '\n'.join(lines)
 
 
-def proof(name):
+def proof(name, folder):
     named = {}
     f = read_function(name, named)
     called = '::'.join(f.callee)
@@ -669,18 +682,17 @@ def proof(name):
     head = f'''-- `{f.name}` meets its contract. {says}
 -- Written by tools/walks.py from the parameters of `{f.name}`. Assumes nothing.
 '''
-    path = ROOT / 'crates' / CRATE / 'proofs' / f.module / f.name / 'Proof.antt'
+    path = folder / 'crates' / f.crate / 'proofs' / f.module / f.name / 'Proof.antt'
     path.parent.mkdir(parents=True, exist_ok=True)
     path.write_text(head + imports(f, named, body) + '\n\n' + body)
 
 
 def main():
-    wanted = sys.argv[1:] or list(WALKS)
-    for name in wanted:
-        if name not in WALKS:
-            sys.exit(f'no walk for {name}; there are {", ".join(WALKS)}')
-    for name in wanted:
-        proof(name)
+    if len(sys.argv) > 2:
+        sys.exit('usage: python3 tools/walks.py [FOLDER]')
+    folder = Path(sys.argv[1]) if len(sys.argv) == 2 else ROOT
+    for name in WALKS:
+        proof(name, folder)
 
 
 if __name__ == '__main__':

@@ -5,7 +5,7 @@ use crate::call::{Call, Lengths};
 use crate::counts;
 use crate::damage::{undone, Damages, FIELDS};
 use crate::desk::{Answer, Desk};
-use crate::script::{self, Outcome, Record, Stores};
+use crate::script::{self, Outcome, Record, Stores, STATUS_FROM};
 use crate::tally::Tally;
 use crate::worked::{Month, ROWS};
 use std::fmt::Write;
@@ -56,7 +56,10 @@ pub struct Expected {
 
 /// An answer as a script gives it: the number, and for a show the length of its part and the part.
 fn words(call: &Call, answer: &Answer) -> Vec<u64> {
-    let mut words = vec![answer.number()];
+    let mut words = vec![match answer {
+        Answer::Status(status) => STATUS_FROM + status,
+        _ => answer.number(),
+    }];
     if let Call::Show { .. } = call {
         words.push(0);
     }
@@ -119,7 +122,7 @@ pub fn expected(trial: &Trial, tally: &mut Tally) -> Expected {
     for (question, status) in questions(&desk) {
         tally.add("status given", status);
         records.push(question);
-        answers.push(vec![status]);
+        answers.push(vec![STATUS_FROM + status]);
     }
     let stores = stores_after(&desk, trial.stores());
     Expected {

@@ -1,5 +1,5 @@
-//! The functions of the static libraries `host` and `drive`, each behind a safe function. None of them asks anything
-//! of its caller, so a slice's pointer and length are all that there is to get right.
+//! The functions of the static libraries `host`, `test_drive` and `test_script`, each behind a safe function. None of
+//! them asks anything of its caller, so a slice's pointer and length are all that there is to get right.
 
 extern "C" {
     fn emorizugu_file_refusal(file: *const u8, len: usize) -> u64;

@@ -1,4 +1,4 @@
-//! Scripts: calls as numbers in a slice, the form in which `drive` takes them, and what a run of one gives.
+//! Scripts: calls as numbers in a slice, the form in which `test_script` takes them, and what a run of one gives.
 
 use crate::call::{Call, Lengths};
 use crate::generator::Random;
@@ -7,6 +7,9 @@ use std::fmt;
 
 /// The number of a record that overwrites a field of the desk's state.
 const DAMAGE: u64 = 10;
+
+/// What an accepted status is in a script's output: this and the status. So it is the number of no cause.
+pub const STATUS_FROM: u64 = 100;
 
 /// A field of the desk's state and what it is overwritten with.
 #[derive(Clone, Copy, Debug, PartialEq, Eq)]
@@ -113,8 +116,8 @@ impl Stores {
     }
 }
 
-/// What a run of a script gives: for each call its number and, for a show, the length of its part and its words; and
-/// the stores.
+/// What a run of a script gives: for each call its number, a status's with [`STATUS_FROM`] added, and for a show the
+/// length of its part and its words; and the stores.
 #[derive(Clone, Debug, PartialEq, Eq)]
 pub struct Outcome {
     /// The calls' answers in their order.

@@ -2,10 +2,10 @@
 use calls::open::open as core;
 use model::Answer;
 use quantity::Day;
+use quantity::limits::DELTAS;
 use state::Desk;
 ghost use Rattle.model.specs.Call.{opens};
-ghost use Rattle.model.specs.Step.{step};
-ghost use Rattle.checks.specs.Stepped.{Stepped, storesOf, lent};
+ghost use Rattle.checks.specs.Stepped.{Stepped};
 
 // The 17 delta groups: T's, then those of the areas 1 to 16.
 pub fn open(
@@ -14,12 +14,12 @@ pub fn open(
     first: Day,
     clearing: Day,
     correction: Day,
-    groups: [u64; 17],
+    groups: [u64; DELTAS as usize],
     values: &[u64],
     book: &mut [u64],
     log: &[u64],
 ) -> Answer
-    ensures { λ r. ⌜ Stepped (step (now (d .entry)) (lent (opens quarters (first .0) (clearing .0) (correction .0) groups) (storesOf (now (values .entry)) (now (book .entry)) (now (log .entry))))) r (now (d .exit)) (now (values .entry)) (now (book .exit)) (now (log .entry)) ⌝ }
+    ensures { λ r. ⌜ Stepped (now (d .entry)) (opens quarters (first .0) (clearing .0) (correction .0) groups) (now (values .entry)) (now (book .entry)) (now (log .entry)) r (now (d .exit)) (now (values .entry)) (now (book .exit)) (now (log .entry)) ⌝ }
 {
     let out = core(
         *d,
