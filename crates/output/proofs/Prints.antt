@@ -17,7 +17,7 @@ use Rattle.quantity.specs.Sum.{sumTo}
 use Rattle.quantity.specs.Word.{signed}
 use Rattle.text.specs.Line.{answerLine, groupLine, totalLine}
 use Rattle.text.specs.Text.{eachTo}
-use Rattle.output.specs.Figures.{IsPlace, Summed, readOf, totalOf}
+use Rattle.output.specs.Figures.{IsPlace, Summed, wordOf, readOf, totalOf}
 use Rattle.output.specs.Output.{answersText, groupText}
 
 -- the line of a call
@@ -55,6 +55,10 @@ module _ (run quarter group : ℕ) where
           let e : 2 ^ 64 - suc k ≡ w = omega arith in
           ap (λ (x : ℕ). eqb (natAbs (signed x)) 0) (sym e) ∙ ap (λ (z : ℤ). eqb (natAbs z) 0) (toZ-neg w64 k (omega arith)) ∙ ne-eqb (suc k) 0 (λ z. omega arith)
 
--- the figures of a book in one quarter hour, with the sum's word
+-- a group's text by the word that the book has
+pub group-read : (s : List ℕ) (q run quarter group w : ℕ) → w ≡ wordOf s q run quarter group → groupText run quarter group (signed w) ≡ groupText run quarter group (readOf s q run quarter group)
+group-read s q run quarter group w e = ap (λ (x : ℕ). groupText run quarter group (signed x)) e
+
+-- the line of a sum by the word that was worked out
 pub total-read : (s : List ℕ) (q run quarter : ℕ) (w : ℕ) → Summed s q → IsPlace q run quarter → w ≡ totalOf s q run quarter groups → totalLine run quarter (signed w) ≡ totalLine run quarter (sumTo groups (readOf s q run quarter))
 total-read s q run quarter w S p e = ap (λ (x : ℕ). totalLine run quarter (signed x)) e ∙ ap (totalLine run quarter) (S run quarter p)

@@ -1,15 +1,15 @@
 -- `put_groups` meets its contract. Assumes nothing.
 use Prim.Native.Nat.{ℕ, _+_, _*_, _-_, _≤_}
-use mathlib.Core.Path.{_≡_, ap}
+use mathlib.Core.Path.{_≡_}
 use native.Mathlib.Omega.{arith}
 use lib.ListN.{length}
 use Rattle.quantity.specs.Limits.{groups}
-use Rattle.quantity.specs.Word.{signed}
 use Rattle.text.specs.Text.{Put, eachTo}
 use Rattle.text.proofs.Texts.{put-as, put-each, put-first}
 use Rattle.output.specs.Fill.{groupRoom}
 use Rattle.output.specs.Figures.{readOf}
 use Rattle.output.specs.Output.{groupText}
+use Rattle.output.proofs.Prints.{group-read}
 use borrow.Author.Needs.{needs}
 use Rattle.output.proofs.print.put_groups.Statement.{statement}
 use Rattle.output.proofs.print.put_groups.Tie as tie
@@ -37,8 +37,9 @@ loop-less c = search needs
 
 loop-again : tie.Need-loop-again Inv-loop μ-loop
 loop-again c =
-    let a = c .before .before .before .before .before .before .before .before .before .args in (
-      put-each groupRoom _ _ (c .before .before .before .before .before .before .loop .inv .0) (put-as (c .before .before .put-group .ensures) (search needs) (ap (λ (w : ℕ). groupText (a .run) (a .quarter) (c .before .before .before .before .before .before .loop .group + 1) (signed w)) (c .before .before .before .before .figure .ensures))),
+    let a = c .before .before .before .before .before .before .before .before .before .args in
+    let g = c .before .before .before .before .before .before .loop .group + 1 in (
+      put-each groupRoom _ _ (c .before .before .before .before .before .before .loop .inv .0) (put-as (c .before .before .put-group .ensures) (search needs) (group-read (a .book .now) (a .quarters) (a .run) (a .quarter) g _ (c .before .before .before .before .figure .ensures))),
       search needs,
       search needs,
     )
