@@ -36,7 +36,7 @@ extern "C" {
         report: *mut u64,
         report_len: usize,
     ) -> u64;
-    fn drive_read(
+    fn emorizugu_read(
         file: *const u8,
         len: usize,
         start: u64,
@@ -45,7 +45,7 @@ extern "C" {
         out: *mut u64,
         out_len: usize,
     ) -> u64;
-    fn drive_write(
+    fn emorizugu_write(
         kind: u64,
         fields: *const u64,
         fields_len: usize,
@@ -120,10 +120,10 @@ pub fn replay(
     }
 }
 
-/// `drive_read`.
+/// `emorizugu_read`.
 pub fn read(file: &[u8], start: u64, series: &mut [u64], out: &mut [u64]) -> u64 {
     unsafe {
-        drive_read(
+        emorizugu_read(
             file.as_ptr(),
             file.len(),
             start,
@@ -135,10 +135,10 @@ pub fn read(file: &[u8], start: u64, series: &mut [u64], out: &mut [u64]) -> u64
     }
 }
 
-/// `drive_write`.
+/// `emorizugu_write`.
 pub fn write(kind: u64, fields: &[u64], series: &[u64], output: &mut [u8], out: &mut [u64]) -> u64 {
     unsafe {
-        drive_write(
+        emorizugu_write(
             kind,
             fields.as_ptr(),
             fields.len(),

@@ -29,8 +29,8 @@ use state::Desk;
 use state::fresh::fresh_desk;
 use state::statuses;
 use test_drive::damage::damaged;
-use test_drive::field_at;
-use test_drive::pad_fields;
+use writer::fields::field_at;
+use writer::fields::pad_fields;
 ghost use Prim.Native.Nat.{_≤_};
 ghost use lib.ListN.{length};
 

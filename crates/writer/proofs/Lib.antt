@@ -1,3 +1,4 @@
+pub mod Padding
 pub mod Theorems
 pub mod WriterSteps
 pub mod Writing

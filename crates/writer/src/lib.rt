@@ -1,4 +1,6 @@
 // The writer: one call to the start of a lent output. The size is known before the first byte is written.
+pub mod fields;
+
 use message::FileCause;
 use message::call;
 use message::call::MOST_FIELDS;

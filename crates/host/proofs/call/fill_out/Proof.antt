@@ -4,10 +4,10 @@ use Prim.Native.Nat.{_-_}
 use mathlib.Core.Path.{_∙_}
 use lib.ListN.{length-set}
 use Rattle.quantity.proofs.Lists.{length-of}
-use Rattle.test_drive.proofs.Places.{Filling, filling, filled-more, in-places, all-filled, filled-out, begun-length}
+use Rattle.host.proofs.Places.{Filling, filling, filled-more, in-places, all-filled, filled-out, begun-length}
 use native.Mathlib.Omega.{arith}
-use Rattle.test_drive.proofs.fill_out.Statement.{statement}
-use Rattle.test_drive.proofs.fill_out.Tie as tie
+use Rattle.host.proofs.call.fill_out.Statement.{statement}
+use Rattle.host.proofs.call.fill_out.Tie as tie
 
 abbrev Inv-loop : tie.InvT-loop
 Inv-loop out₀ first kind count fields i₀ out i = Filling out₀ first kind fields out i

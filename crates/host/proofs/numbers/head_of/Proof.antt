@@ -1,9 +1,9 @@
 -- `head_of` meets its contract, by the call. Assumes nothing.
 use borrow.Author.Needs.{needs}
 use mathlib.Core.Path.{sym, ap}
-use Rattle.test_drive.specs.Drive.{headOf}
-use Rattle.test_drive.proofs.numbers.head_of.Statement.{statement}
-use Rattle.test_drive.proofs.numbers.head_of.Tie as tie
+use Rattle.host.specs.Call.{headOf}
+use Rattle.host.proofs.numbers.head_of.Statement.{statement}
+use Rattle.host.proofs.numbers.head_of.Tie as tie
 
 enum-known-call : tie.Need-enum-known-call
 enum-known-call c = search needs

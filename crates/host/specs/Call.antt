@@ -1,7 +1,7 @@
--- The answers of the drivers, as numbers in slices.
+-- One call read and one call written, as numbers in slices.
 use Prim.Native.Nat.{ℕ, _+_}
 use mathlib.Core.List.{List, [], _∷_, _++_}
-use lib.ListN.{take, drop, replicate}
+use lib.ListN.{drop, replicate}
 use Rattle.message.specs.Cause.{causeNumber}
 use Rattle.message.specs.Call.{Sent, opening, activation, deactivation, submission, noticing, assignment, settlement, mostFields}
 use Rattle.message.specs.declared.DeskCall.{DeskCall}
@@ -9,6 +9,7 @@ use Rattle.message.specs.declared.DeskCall.the-variants.{Open, Activate, Deacti
 use Rattle.reader.specs.declared.Reading.{Reading}
 use Rattle.reader.specs.declared.Step.{Step}
 use Rattle.reader.specs.declared.Step.the-variants.{Call, End, Refused}
+use Rattle.writer.specs.Fields.{fields21}
 use Rattle.writer.specs.Writer.{handed}
 use Rattle.writer.specs.declared.Written.{Written}
 use Rattle.writer.specs.declared.Written.the-variants.{Length, Refused as NotWritten}
@@ -61,13 +62,9 @@ stepOut start (Refused x at) groups out = noCall at out
 abbrev pub readOut : (start : ℕ) → Reading → (out : List ℕ) → List ℕ
 readOut start r out = stepOut start (r .step) (r .groups) out
 
--- 21 fields: "fields shorter than 21 count as 0 there"
-abbrev pub fields21 : List ℕ → List ℕ
-fields21 fields = take mostFields (fields ++ replicate mostFields 0)
-
--- the call that is driven into the writer
-abbrev pub driven : (kind : ℕ) (fields series : List ℕ) → Sent
-driven kind fields series = handed kind (fields21 fields) series
+-- the call that is sentAs into the writer
+abbrev pub sentAs : (kind : ℕ) (fields series : List ℕ) → Sent
+sentAs kind fields series = handed kind (fields21 fields) series
 
 -- 0, or the refusal's number
 abbrev pub writeAnswer : Written → ℕ

@@ -1,8 +1,8 @@
 -- `field_at` meets its contract. Assumes nothing.
 use borrow.Author.Needs.{needs}
-use Rattle.test_drive.proofs.Places.{field-none}
-use Rattle.test_drive.proofs.field_at.Statement.{statement}
-use Rattle.test_drive.proofs.field_at.Tie as tie
+use Rattle.writer.proofs.Padding.{field-none}
+use Rattle.writer.proofs.fields.field_at.Statement.{statement}
+use Rattle.writer.proofs.fields.field_at.Tie as tie
 
 mul-result : tie.Need-mul-result
 mul-result c = search needs

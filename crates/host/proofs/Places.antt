@@ -1,5 +1,5 @@
 -- The places of what was read, and a field or 0 where there is none. Assumes nothing.
-use Prim.Native.Nat.{ℕ, zero, suc, _+_, _-_, _<_, _≤_}
+use Prim.Native.Nat.{ℕ, suc, _+_, _-_, _<_, _≤_}
 use mathlib.Core.Path.{_≡_, refl, sym, ap, subst, _∙_}
 use mathlib.Core.Bool.{cond}
 use borrow.Author.Tests.{lt-ltb, le-ltb, eq-eqb, ne-eqb}
@@ -7,14 +7,15 @@ use lib.Dec.{ltb, eqb}
 use mathlib.Core.List.{List, [], _∷_, _++_}
 use native.Mathlib.Omega.{arith}
 use native.Mathlib.Numerals.{add-one}
-use lib.ListN.{length, take, drop, set, getD, replicate, length-set, length-append, List·getD-append, List·getD-eq-default}
-use lib.Seq.{take-suc, take-suc-set, take-all, drop-set-lt, set-split, getD-append-add, getD-take, length-take-le}
+use lib.ListN.{length, take, drop, set, getD, length-set, List·getD-append}
+use lib.Seq.{take-suc, take-suc-set, take-all, drop-set-lt, set-split, getD-append-add}
 use Rattle.message.specs.Call.{beforeGroups, mostFields}
 use Rattle.reader.specs.Reader.{readAt, seriesAfter}
-use Rattle.test_drive.specs.Drive.{places, written, fields21, driven, readAnswer, stepOut, readOut, writeAnswer, writeLength, writeOut}
+use Rattle.host.specs.Call.{places, written, sentAs, readAnswer, stepOut, readOut, writeAnswer, writeLength, writeOut}
 use Rattle.message.specs.Call.{Sent}
 use Rattle.reader.specs.declared.Reading.{Reading}
 use Rattle.reader.specs.declared.Step.{Step}
+use Rattle.writer.specs.Fields.{fields21}
 use Rattle.writer.specs.Writer.{handed, writtenIn, outputAfter}
 use Rattle.writer.specs.declared.Written.{Written}
 
@@ -67,30 +68,6 @@ module _ {out₀ : List ℕ} {first kind : ℕ} {fields out : List ℕ} {i : ℕ
       let f : take (2 + mostFields) out ≡ first ∷ kind ∷ take mostFields fields = rw n at (w .front) in f ∙ ap (λ (x : List ℕ). first ∷ kind ∷ x) (take-all mostFields fields (omega (arith, w .all))) in
       set-split out 23 count in-places ∙ rw (front, w .back)
 
--- a field or 0
-pub field-none : (fields : List ℕ) (i : ℕ) → length fields ≤ i → 0 ≡ getD fields i 0
-field-none fields i h = sym (List·getD-eq-default fields 0 {n = i} h)
-
-zeros-at : (k i : ℕ) → _≡_ {A = ℕ} (getD (replicate k 0) i 0) 0
-zeros-at zero i = refl
-zeros-at (suc k) zero = refl
-zeros-at (suc k) (suc i) = zeros-at k i
-
-padded-at : (l : List ℕ) (k i : ℕ) → getD (l ++ replicate k 0) i 0 ≡ getD l i 0
-padded-at [] k i = zeros-at k i
-padded-at (x ∷ l) k zero = refl
-padded-at (x ∷ l) k (suc i) = padded-at l k i
-
-pub field-at : (fields : List ℕ) (i x : ℕ) → i < mostFields → x ≡ getD fields i 0 → x ≡ getD (fields21 fields) i 0
-field-at fields i x h e = e ∙ sym (getD-take mostFields (fields ++ replicate mostFields 0) i 0 h ∙ padded-at fields mostFields i)
-
-zeros-length : length (replicate {A = ℕ} mostFields 0) ≡ mostFields
-zeros-length = refl
-
-pub fields-length : (fields : List ℕ) → length (fields21 fields) ≡ mostFields
-fields-length fields =
-    length-take-le mostFields (fields ++ replicate mostFields 0) (omega (arith, length-append fields (replicate mostFields 0), zeros-length))
-
 pub filled-out : (out : List ℕ) (first kind : ℕ) (fields last : List ℕ) (count : ℕ) → last ≡ written first kind fields count (begun out first kind) → last ≡ written first kind fields count out
 filled-out out first kind fields last count e = e ∙ ap (λ (x : List ℕ). first ∷ kind ∷ (fields ++ (count ∷ x))) (begun-back out first kind)
 
@@ -122,14 +99,14 @@ module _ (s : List ℕ) (start : ℕ) (series₀ out₀ : List ℕ) where
       (a ∙ ap readAnswer (sym e ∙ ap (λ (x : Reading). x .step) (p .0)), p .1, o ∙ ap (λ (x : Step). stepOut start x (reading .groups) out₀) (sym e) ∙ ap (λ (x : Reading). readOut start x out₀) (p .0))
 
 -- what is answered of a writing: the number, the output, the length
-abbrev pub DrivePost : Sent → List ℕ → List ℕ → ℕ → List ℕ → List ℕ → Type 0
-DrivePost c output₀ out₀ r output out =
+abbrev pub WritePost : Sent → List ℕ → List ℕ → ℕ → List ℕ → List ℕ → Type 0
+WritePost c output₀ out₀ r output out =
     (r ≡ cond (eqb (length out₀) 0) 2 (writeAnswer (writtenIn (length output₀) c)))
     × (output ≡ cond (eqb (length out₀) 0) output₀ (outputAfter (writtenIn (length output₀) c) c output₀))
     × (out ≡ cond (eqb (length out₀) 0) out₀ (writeOut (writtenIn (length output₀) c) out₀))
 
 module _ (c : Sent) (output₀ out₀ : List ℕ) where
-  pub write-short : length out₀ ≡ 0 → DrivePost c output₀ out₀ 2 output₀ out₀
+  pub write-short : length out₀ ≡ 0 → WritePost c output₀ out₀ 2 output₀ out₀
   write-short h = rw (eq-eqb (length out₀) 0 h) (refl, refl, refl)
 
   first-place : (n : ℕ) → (length out₀ ≡ 0 → ⊥) → set out₀ 0 n ≡ n ∷ drop 1 out₀
@@ -140,7 +117,7 @@ module _ (c : Sent) (output₀ out₀ : List ℕ) where
       go (x ∷ l) h = refl
 
   pub write-step : {w t : Written} {r : ℕ} {output : List ℕ} → (length out₀ ≡ 0 → ⊥) → (w ≡ writtenIn (length output₀) c) × (output ≡ outputAfter w c output₀) → w ≡ t → r ≡ writeAnswer t →
-      DrivePost c output₀ out₀ r output (set out₀ 0 (writeLength t))
+      WritePost c output₀ out₀ r output (set out₀ 0 (writeLength t))
   write-step {w} {t} h p e a =
       let same : t ≡ writtenIn (length output₀) c = sym e ∙ p .0 in
       rw (ne-eqb (length out₀) 0 h)
@@ -149,6 +126,6 @@ module _ (c : Sent) (output₀ out₀ : List ℕ) where
 -- the fields as they were padded
 pub write-padded : (k : ℕ) {f : List ℕ} (fields ws output₀ : List ℕ) {w : Written} {output : List ℕ} → f ≡ fields21 fields →
     (w ≡ writtenIn (length output₀) (handed k f ws)) × (output ≡ outputAfter w (handed k f ws) output₀) →
-    (w ≡ writtenIn (length output₀) (driven k fields ws)) × (output ≡ outputAfter w (driven k fields ws) output₀)
+    (w ≡ writtenIn (length output₀) (sentAs k fields ws)) × (output ≡ outputAfter w (sentAs k fields ws) output₀)
 write-padded k fields ws output₀ {w} {output} e p =
     subst (λ (x : List ℕ). (w ≡ writtenIn (length output₀) (handed k x ws)) × (output ≡ outputAfter w (handed k x ws) output₀)) e p

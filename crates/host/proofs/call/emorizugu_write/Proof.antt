@@ -1,13 +1,13 @@
--- `drive_write` meets its contract: the call that was written, and its length. Assumes nothing.
+-- `emorizugu_write` meets its contract: the call that was written, and its length. Assumes nothing.
 use borrow.Author.Needs.{needs}
 use mathlib.Core.Path.{refl}
-use Rattle.test_drive.specs.Drive.{driven}
-use Rattle.test_drive.proofs.Places.{write-short, write-step, write-padded}
-use Rattle.test_drive.proofs.drive_write.Statement.{statement}
-use Rattle.test_drive.proofs.drive_write.Tie as tie
+use Rattle.host.specs.Call.{sentAs}
+use Rattle.host.proofs.Places.{write-short, write-step, write-padded}
+use Rattle.host.proofs.call.emorizugu_write.Statement.{statement}
+use Rattle.host.proofs.call.emorizugu_write.Tie as tie
 
 returns : tie.Need-returns
-returns c = write-short (driven (c .before .before .before .before .before .args .kind) (c .before .before .before .before .before .args .fields .now) (c .before .before .before .before .before .args .series .now)) (c .before .before .before .before .before .args .output .now) (c .before .before .before .before .before .args .out .now) (c .if1 .taken)
+returns c = write-short (sentAs (c .before .before .before .before .before .args .kind) (c .before .before .before .before .before .args .fields .now) (c .before .before .before .before .before .args .series .now)) (c .before .before .before .before .before .args .output .now) (c .before .before .before .before .before .args .out .now) (c .if1 .taken)
 
 pad-fields-requires : tie.Need-pad-fields-requires
 pad-fields-requires c κs = search needs
@@ -38,7 +38,7 @@ same-length-2 c = search needs
 
 returns-2 : tie.Need-returns-2
 returns-2 c =
-    write-step (driven (c .before .before .before .before .before .before .before .before .before .before .before .before .before .args .kind) (c .before .before .before .before .before .before .before .before .before .before .before .before .before .args .fields .now) (c .before .before .before .before .before .before .before .before .before .before .before .before .before .args .series .now)) (c .before .before .before .before .before .before .before .before .before .before .before .before .before .args .output .now) (c .before .before .before .before .before .before .before .before .before .before .before .before .before .args .out .now) (c .before .before .before .before .before .before .before .before .if1 .left)
+    write-step (sentAs (c .before .before .before .before .before .before .before .before .before .before .before .before .before .args .kind) (c .before .before .before .before .before .before .before .before .before .before .before .before .before .args .fields .now) (c .before .before .before .before .before .before .before .before .before .before .before .before .before .args .series .now)) (c .before .before .before .before .before .before .before .before .before .before .before .before .before .args .output .now) (c .before .before .before .before .before .before .before .before .before .before .before .before .before .args .out .now) (c .before .before .before .before .before .before .before .before .if1 .left)
     (write-padded (c .before .before .before .before .before .before .before .before .before .before .before .before .before .args .kind) (c .before .before .before .before .before .before .before .before .before .before .before .before .before .args .fields .now) (c .before .before .before .before .before .before .before .before .before .before .before .before .before .args .series .now) (c .before .before .before .before .before .before .before .before .before .before .before .before .before .args .output .now) (c .before .before .before .before .before .before .before .pad-fields .ensures) (c .before .before .before .before .before .write-call .ensures)) (c .before .n .given .1) refl
 
 same-length-3 : tie.Need-same-length-3
@@ -49,11 +49,11 @@ same-length-4 c = search needs
 
 returns-3 : tie.Need-returns-3
 returns-3 c =
-    write-step (driven (c .before .before .before .before .before .before .before .before .before .before .before .before .before .before .args .kind) (c .before .before .before .before .before .before .before .before .before .before .before .before .before .before .args .fields .now) (c .before .before .before .before .before .before .before .before .before .before .before .before .before .before .args .series .now)) (c .before .before .before .before .before .before .before .before .before .before .before .before .before .before .args .output .now) (c .before .before .before .before .before .before .before .before .before .before .before .before .before .before .args .out .now) (c .before .before .before .before .before .before .before .before .before .if1 .left)
+    write-step (sentAs (c .before .before .before .before .before .before .before .before .before .before .before .before .before .before .args .kind) (c .before .before .before .before .before .before .before .before .before .before .before .before .before .before .args .fields .now) (c .before .before .before .before .before .before .before .before .before .before .before .before .before .before .args .series .now)) (c .before .before .before .before .before .before .before .before .before .before .before .before .before .before .args .output .now) (c .before .before .before .before .before .before .before .before .before .before .before .before .before .before .args .out .now) (c .before .before .before .before .before .before .before .before .before .if1 .left)
     (write-padded (c .before .before .before .before .before .before .before .before .before .before .before .before .before .before .args .kind) (c .before .before .before .before .before .before .before .before .before .before .before .before .before .before .args .fields .now) (c .before .before .before .before .before .before .before .before .before .before .before .before .before .before .args .series .now) (c .before .before .before .before .before .before .before .before .before .before .before .before .before .before .args .output .now) (c .before .before .before .before .before .before .before .before .pad-fields .ensures) (c .before .before .before .before .before .before .write-call .ensures)) (c .before .before .cause .given .1) (c .number-of .ensures)
 
-pub drive-write-spec : {M : Type 1} → statement M
-drive-write-spec =
+pub emorizugu-write-spec : {M : Type 1} → statement M
+emorizugu-write-spec =
     tie.close
     (tie.spec
     returns

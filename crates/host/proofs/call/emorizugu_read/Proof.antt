@@ -1,9 +1,9 @@
--- `drive_read` meets its contract: the step that was read, and its places. Assumes nothing.
+-- `emorizugu_read` meets its contract: the step that was read, and its places. Assumes nothing.
 use borrow.Author.Needs.{needs}
 use mathlib.Core.Path.{refl, _∙_}
-use Rattle.test_drive.proofs.Places.{read-short, read-step}
-use Rattle.test_drive.proofs.drive_read.Statement.{statement}
-use Rattle.test_drive.proofs.drive_read.Tie as tie
+use Rattle.host.proofs.Places.{read-short, read-step}
+use Rattle.host.proofs.call.emorizugu_read.Statement.{statement}
+use Rattle.host.proofs.call.emorizugu_read.Tie as tie
 
 returns : tie.Need-returns
 returns c = read-short (c .before .before .before .before .args .file .now) (c .before .before .before .before .args .start) (c .before .before .before .before .args .series .now) (c .before .before .before .before .args .out .now) (c .if1 .taken)
@@ -71,8 +71,8 @@ returns-4 c =
     read-step (c .before .before .before .before .before .before .before .before .before .before .before .before .before .before .before .before .before .args .file .now) (c .before .before .before .before .before .before .before .before .before .before .before .before .before .before .before .before .before .args .start) (c .before .before .before .before .before .before .before .before .before .before .before .before .before .before .before .before .before .args .series .now) (c .before .before .before .before .before .before .before .before .before .before .before .before .before .before .before .before .before .args .out .now) (c .before .before .before .before .before .before .before .before .before .before .before .before .before .if1 .left) (c .before .before .before .before .before .before .before .before .before .before .before .read-call .ensures) (c .before .before .before .before .before .before .step2 .given .1)
     (c .number-of .ensures) (c .before .before .before .fill-out3 .ensures)
 
-pub drive-read-spec : {M : Type 1} → statement M
-drive-read-spec =
+pub emorizugu-read-spec : {M : Type 1} → statement M
+emorizugu-read-spec =
     tie.close
     (tie.spec
     returns

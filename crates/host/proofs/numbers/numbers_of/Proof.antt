@@ -9,8 +9,8 @@ use Rattle.quantity.specs.Limits.{deltas}
 use Rattle.quantity.proofs.Lists.{length-of}
 use Rattle.message.proofs.Copying.{Copying, copying, copied-more, copied}
 use Rattle.message.specs.Call.{beforeGroups, mostFields}
-use Rattle.test_drive.proofs.numbers.numbers_of.Statement.{statement}
-use Rattle.test_drive.proofs.numbers.numbers_of.Tie as tie
+use Rattle.host.proofs.numbers.numbers_of.Statement.{statement}
+use Rattle.host.proofs.numbers.numbers_of.Tie as tie
 
 abbrev Inv-loop : tie.InvT-loop
 Inv-loop groups head numbers₀ i₀ numbers i = Copying mostFields (head ++ groups) numbers i

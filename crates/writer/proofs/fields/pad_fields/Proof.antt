@@ -3,10 +3,10 @@ use borrow.Author.Needs.{needs}
 use Prim.Native.Nat.{_-_}
 use mathlib.Core.Path.{refl}
 use Rattle.message.proofs.Copying.{Copying, copying, copied-more, copied}
-use Rattle.test_drive.specs.Drive.{fields21}
-use Rattle.test_drive.proofs.Places.{field-at, fields-length}
-use Rattle.test_drive.proofs.pad_fields.Statement.{statement}
-use Rattle.test_drive.proofs.pad_fields.Tie as tie
+use Rattle.writer.specs.Fields.{fields21}
+use Rattle.writer.proofs.Padding.{field-at, fields-length}
+use Rattle.writer.proofs.fields.pad_fields.Statement.{statement}
+use Rattle.writer.proofs.fields.pad_fields.Tie as tie
 
 abbrev Inv-loop : tie.InvT-loop
 Inv-loop fields padded₀ i₀ padded i = Copying 21 (fields21 fields) padded i

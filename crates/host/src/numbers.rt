@@ -15,7 +15,7 @@ ghost use mathlib.Core.List.{_++_};
 ghost use Prim.Native.Nat.{_<_};
 ghost use lib.ListN.{getD};
 ghost use Rattle.message.specs.Call.{mostFields};
-ghost use Rattle.test_drive.specs.Drive.{kindOf, headOf};
+ghost use Rattle.host.specs.Call.{kindOf, headOf};
 
 pub fn kind_of(call: DeskCall) -> u64
     ensures { λ r. ⌜ r ≡ kindOf call ⌝ }

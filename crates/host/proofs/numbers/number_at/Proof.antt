@@ -3,10 +3,10 @@ use borrow.Author.Needs.{needs}
 use mathlib.Core.Path.{_≡_}
 use Rattle.quantity.proofs.Lists.{length-of}
 use Rattle.message.specs.Call.{beforeGroups}
-use Rattle.test_drive.proofs.Places.{in-head, behind-head}
+use Rattle.host.proofs.Places.{in-head, behind-head}
 use lib.ListN.{length}
-use Rattle.test_drive.proofs.numbers.number_at.Statement.{statement}
-use Rattle.test_drive.proofs.numbers.number_at.Tie as tie
+use Rattle.host.proofs.numbers.number_at.Statement.{statement}
+use Rattle.host.proofs.numbers.number_at.Tie as tie
 
 mul-result : tie.Need-mul-result
 mul-result c = search needs

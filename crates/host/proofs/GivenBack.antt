@@ -12,7 +12,7 @@ use Rattle.message.specs.declared.DeskCall.{DeskCall}
 use Rattle.message.specs.declared.Named.the-variants.{Known}
 use Rattle.reader.specs.Reader.{padded, readAt}
 use Rattle.reader.specs.declared.Step.the-variants.{Call}
-use Rattle.test_drive.specs.Drive.{kindOf, headOf, written, readOut}
+use Rattle.host.specs.Call.{kindOf, headOf, written, readOut}
 use Rattle.message.proofs.ByKind.{each-kind}
 use Rattle.message.proofs.Calls.{parse-read}
 use Rattle.reader.proofs.Theorems.{reader-call}
