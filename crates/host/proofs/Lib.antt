@@ -1,3 +1,5 @@
 pub mod GivenBack
+pub mod Months
 pub mod Places
 pub mod Reports
+pub mod Tables

@@ -1,2 +1,4 @@
 pub mod Call
+pub mod Month
 pub mod Replay
+pub mod Table

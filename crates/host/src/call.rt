@@ -43,7 +43,12 @@ fn fill_out(out: &mut [u64], first: u64, kind: u64, fields: [u64; MOST_FIELDS], 
 }
 
 #[no_mangle]
-pub extern "C" fn emorizugu_read(file: &[u8], start: u64, series: &mut [u64], out: &mut [u64]) -> u64
+pub extern "C" fn emorizugu_read(
+    file: &[u8],
+    start: u64,
+    series: &mut [u64],
+    out: &mut [u64],
+) -> u64
     ensures { λ r. ⌜ (r ≡ cond (ltb (length (now (out .entry))) places) 2 (readAnswer (readAt (now (file .entry)) start (length (now (series .entry))) .step)))
         × (now (series .exit) ≡ cond (ltb (length (now (out .entry))) places) (now (series .entry)) (seriesAfter (now (file .entry)) start (now (series .entry))))
         × (now (out .exit) ≡ cond (ltb (length (now (out .entry))) places) (now (out .entry)) (readOut start (readAt (now (file .entry)) start (length (now (series .entry)))) (now (out .entry)))) ⌝ }

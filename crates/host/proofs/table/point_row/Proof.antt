@@ -1,0 +1,46 @@
+-- `point_row` meets its contract. Assumes nothing.
+use mathlib.Core.Path.{_∙_}
+use native.Mathlib.Numerals.{add-one}
+use borrow.Author.Needs.{needs}
+use Rattle.host.proofs.table.point_row.Statement.{statement}
+use Rattle.host.proofs.table.point_row.Tie as tie
+
+add-t8 : tie.Need-add-t8
+add-t8 c = search needs
+
+survey-requires : tie.Need-survey-requires
+survey-requires c κs = search needs
+
+in-run-requires : tie.Need-in-run-requires
+in-run-requires c κs = search needs
+
+version-of-requires : tie.Need-version-of-requires
+version-of-requires c κs = search needs
+
+in-run-requires-2 : tie.Need-in-run-requires-2
+in-run-requires-2 c κs = search needs
+
+version-of-requires-2 : tie.Need-version-of-requires-2
+version-of-requires-2 c κs = search needs
+
+point-places-requires : tie.Need-point-places-requires
+point-places-requires c κs = search needs
+
+returns : tie.Need-returns
+returns c =
+    let s = c .before .before .before .before .before .survey .ensures .0 in
+    c .point-places .ensures
+    ∙ rw (c .before .version-of2 .ensures, c .before .before .before .version-of .ensures, c .before .before .in-run2 .ensures, c .before .before .before .before .in-run .ensures, s .first, s .second, add-one (c .before .before .before .before .before .before .args .i))
+
+pub point-row-spec : {M : Type 1} → statement M
+point-row-spec =
+    tie.close
+    (tie.spec
+    add-t8
+    survey-requires
+    in-run-requires
+    version-of-requires
+    in-run-requires-2
+    version-of-requires-2
+    point-places-requires
+    returns)

@@ -1,0 +1,79 @@
+-- `put_points` meets its contract. Assumes nothing.
+use borrow.Author.Needs.{needs}
+use native.Mathlib.Omega.{arith}
+use Prim.Native.Nat.{ℕ, _*_, _≤_, _-_}
+use mathlib.Core.List.{List}
+use mathlib.Core.Path.{_≡_, refl}
+use lib.ListN.{length, take}
+use Rattle.quantity.proofs.Lists.{length-of}
+use Rattle.replay.specs.Replay.{over}
+use Rattle.host.specs.Table.{rowsTo, pointRow}
+use Rattle.host.proofs.Tables.{rows-none, rows-more, row-wide}
+use Rattle.host.proofs.table.put_points.Statement.{statement}
+use Rattle.host.proofs.table.put_points.Tie as tie
+
+abbrev Inv-loop : tie.InvT-loop
+Inv-loop out₀ versions count points i₀ out i = (i ≤ 256) × (length out ≡ length out₀) × (1792 ≤ length out₀) × (length points ≡ 256) × (out ≡ over (rowsTo i (pointRow points (take count versions))) out₀)
+
+abbrev μ-loop : tie.MeasureT-loop
+μ-loop out₀ versions count points i₀ out i = 256 - i
+
+loop-holds : tie.Need-loop-holds Inv-loop μ-loop
+loop-holds c = let a = c .before .args in
+    let l : length (a .t2) ≡ 256 = search (needs, length-of) in (search needs, refl, search needs, l, rows-none _ _)
+
+mul-point : tie.Need-mul-point Inv-loop μ-loop
+mul-point c = search needs
+
+array-copy-out-point : tie.Need-array-copy-out-point Inv-loop μ-loop
+array-copy-out-point c = search needs
+
+point-row-requires : tie.Need-point-row-requires Inv-loop μ-loop
+point-row-requires c κs = search needs
+
+mul-put-row : tie.Need-mul-put-row Inv-loop μ-loop
+mul-put-row c = search needs
+
+slice-aggregate-put-row : tie.Need-slice-aggregate-put-row Inv-loop μ-loop
+slice-aggregate-put-row c = search needs
+
+put-row-requires : tie.Need-put-row-requires Inv-loop μ-loop
+put-row-requires c κs = search needs
+
+add-i : tie.Need-add-i Inv-loop μ-loop
+add-i c = search needs
+
+loop-less : tie.Need-loop-less Inv-loop μ-loop
+loop-less c = search needs
+
+loop-again : tie.Need-loop-again Inv-loop μ-loop
+loop-again c =
+    let l = c .before .before .before .before .before .before .before .before .loop in
+    let a = c .before .before .before .before .before .before .before .before .before .before .args in
+    let f : ℕ → List ℕ = pointRow (a .t2) (take (a .count) (a .versions)) in
+    (search needs, search needs, search needs, l .inv .3, rows-more f 7 (row-wide (a .t2) (take (a .count) (a .versions))) (l .i) (7 * l .i) _ (a .out .now) (l .out) _ refl (c .before .before .before .before .before .point-row .ensures) (l .inv .4) (c .before .before .put-row .ensures))
+
+same-length : tie.Need-same-length Inv-loop μ-loop
+same-length c = search needs
+
+returns : tie.Need-returns Inv-loop μ-loop
+returns c = let e : c .before .loop .i ≡ 256 = omega arith in rw e at (c .before .loop .inv .4)
+
+pub put-points-spec : {M : Type 1} → statement M
+put-points-spec =
+    tie.close
+    (tie.spec
+    Inv-loop
+    μ-loop
+    loop-holds
+    mul-point
+    array-copy-out-point
+    point-row-requires
+    mul-put-row
+    slice-aggregate-put-row
+    put-row-requires
+    add-i
+    loop-less
+    loop-again
+    same-length
+    returns)

@@ -1,0 +1,135 @@
+// The desk's points and versions as numbers, and how many of its answers are refusals.
+use amend::copies::copy_row;
+use lookup::surveys::survey;
+use quantity::PointNo;
+use quantity::Version;
+use state::PointRecord;
+use state::PointState;
+use state::VersionRecord;
+use state::selections::in_run;
+use state::selections::version_of;
+use state::statuses::number;
+ghost use mathlib.Core.Path.{_≡_};
+ghost use Prim.Native.Nat.{suc, _+_, _≤_, _<_};
+ghost use lib.ListN.{length, take};
+ghost use Rattle.book.specs.Row.{splice};
+ghost use Rattle.replay.specs.Replay.{over};
+ghost use Rattle.state.specs.Selection.{versionOf, selected};
+ghost use Rattle.host.specs.Table.{pointPlaces, pointTable, versionPlaces, versionTable, refusals, firstRefused};
+
+// How many answers are refusals, and which call was refused first; 0 without one.
+pub struct Refusals {
+    pub count: u64,
+    pub first: u64,
+}
+
+// A row into the places from `at` on.
+pub fn put_row(out: &mut [u64], at: usize, row: &[u64])
+    requires { ⌜ at + length (now row) ≤ length (now out) ⌝ }
+    ensures { λ _. ⌜ now (out .exit) ≡ splice (now (out .entry)) at (length (now (row .entry))) (now (row .entry)) ⌝ }
+{
+    let end = at + row.len();
+    copy_row(row, 0, row.len(), &mut out[at..end]);
+}
+
+fn point_places(state: PointState, first: Version, second: Version) -> [u64; 7]
+    ensures { λ r. ⌜ r ≡ pointPlaces state (first .0) (second .0) ⌝ }
+{
+    match state {
+        PointState::Free => [0, 0, 0, 0, 0, first.0, second.0],
+        PointState::Active {
+            since,
+            kind,
+            area,
+            partner,
+        } => [
+            1,
+            since.0 as u64,
+            kind.0 as u64,
+            area.0 as u64,
+            partner.0 as u64,
+            first.0,
+            second.0,
+        ],
+    }
+}
+
+// A point's row, with what both runs select for it.
+fn point_row(state: PointState, versions: [VersionRecord; 512], count: u64, i: u64) -> [u64; 7]
+    requires { ⌜ i < 256 ⌝ }
+    ensures { λ r. ⌜ r ≡ pointPlaces state (versionOf (selected 1 (suc i) (take count versions))) (versionOf (selected 2 (suc i) (take count versions))) ⌝ }
+{
+    let s = survey(versions, count, 0, PointNo(i + 1), Version(0));
+    let first = s.first;
+    let second = s.second;
+    point_places(
+        state,
+        version_of(in_run(1, first, second)),
+        version_of(in_run(2, first, second)),
+    )
+}
+
+// Every point, seven numbers each.
+pub fn put_points(
+    out: &mut [u64],
+    points: [PointRecord; 256],
+    versions: [VersionRecord; 512],
+    count: u64,
+)
+    requires { ⌜ 1792 ≤ length (now out) ⌝ }
+    ensures { λ _. ⌜ now (out .exit) ≡ over (pointTable points (take count versions)) (now (out .entry)) ⌝ }
+{
+    let mut i = 0;
+    while i < 256 {
+        let point = points[i];
+        let state = point.state;
+        let row = point_row(state, versions, count, i as u64);
+        put_row(out, 7 * i, &row);
+        i += 1;
+    }
+}
+
+fn version_places(v: VersionRecord) -> [u64; 4]
+    ensures { λ r. ⌜ r ≡ versionPlaces v ⌝ }
+{
+    let status = v.status;
+    [
+        v.point.0 as u64,
+        v.version.0,
+        number(status),
+        v.row.0 as u64,
+    ]
+}
+
+// Every version held, four numbers each. A count above 512 means the whole table.
+pub fn put_versions(out: &mut [u64], versions: [VersionRecord; 512], count: u64)
+    requires { ⌜ 2048 ≤ length (now out) ⌝ }
+    ensures { λ _. ⌜ now (out .exit) ≡ over (versionTable (take count versions)) (now (out .entry)) ⌝ }
+{
+    let n = if count < 512 { count as usize } else { 512 };
+    let mut i = 0;
+    while i < n {
+        let version = versions[i];
+        let row = version_places(version);
+        put_row(out, 4 * i, &row);
+        i += 1;
+    }
+}
+
+// Of the first n answers, from the last on.
+pub fn refusals_of(answers: &[u64], n: usize) -> Refusals
+    requires { ⌜ n ≤ length (now answers) ⌝ }
+    ensures { λ r. ⌜ (r .count ≡ refusals (take n (now (answers .entry)))) × (r .first ≡ firstRefused 1 (take n (now (answers .entry)))) ⌝ }
+{
+    let mut count = 0;
+    let mut first = 0;
+    let mut i = n;
+    while 0 < i {
+        i -= 1;
+        if answers[i] != 0 {
+            count += 1;
+            first = i as u64 + 1;
+        }
+    }
+    Refusals { count, first }
+}
