@@ -1,47 +1,100 @@
--- The report of a replay. Assumes nothing.
-use Prim.Native.Nat.{ℕ, _≤_, _<_}
-use mathlib.Core.Path.{_≡_, refl, ap, _∙_}
-use mathlib.Core.List.{List, [], _∷_}
+-- The report of a replay, with its tables. Assumes nothing.
+use Prim.Native.Nat.{ℕ, suc, _≤_}
+use mathlib.Core.Path.{_≡_, refl, sym, ap, _∙_}
+use mathlib.Core.Bool.{Bool, true, false, _&&_, true≢false}
+use mathlib.Core.List.{List, [], _∷_, map}
+use native.Mathlib.Nat.{min-le-left}
 use native.Mathlib.Omega.{arith}
-use lib.ListN.{length, set}
-use Rattle.model.specs.Call.{Stores}
-use Rattle.model.specs.Plain.{viewIn}
+use borrow.Author.Tests.{leb-true}
+use lib.Dec.{leb}
+use lib.ListN.{length, take, drop, length-take, length-map}
+use lib.Seq.{take-at}
+use Rattle.quantity.proofs.Tests.{and-left, and-right}
+use Rattle.message.specs.Call.{Sent}
+use Rattle.message.specs.File.{callsIn}
+use Rattle.model.specs.Call.{Call, Stores, Lengths, lengthsOf, Told, Reply, answerNumber}
+use Rattle.model.specs.Plain.{viewIn, plainReplies, plainEnd, plainNext}
 use Rattle.model.specs.View.{View}
-use Rattle.replay.specs.Replay.{over, Replays}
+use Rattle.replay.specs.Feeding.{toldAs, tells}
+use Rattle.replay.specs.Given.{given}
+use Rattle.replay.specs.Replay.{callsFor, toldOf, numbersOf, over, Replays}
 use Rattle.replay.specs.declared.Replayed.{Replayed}
-use Rattle.host.specs.Replay.{endingNumber, endingOffset, places, listed, Reported}
+use Rattle.host.specs.Replay.{endingNumber, endingOffset, fits, fitting, listed, Places, placesOf, Reported}
+use Rattle.host.specs.Table.{pointTable, versionTable, refusals, firstRefused}
+use Rattle.host.specs.declared.Refusals.{Refusals}
 
--- five places filled, one after the other
-pub five-set : (l : List ℕ) (a b c d e : ℕ) → places ≤ length l → set (set (set (set (set l 0 a) 1 b) 2 c) 3 d) 4 e ≡ over (listed a b c d e) l
-five-set [] a b c d e h = absurd (omega arith)
-five-set (v ∷ []) a b c d e h = absurd (omega arith)
-five-set (v ∷ w ∷ []) a b c d e h = absurd (omega arith)
-five-set (v ∷ w ∷ x ∷ []) a b c d e h = absurd (omega arith)
-five-set (v ∷ w ∷ x ∷ y ∷ []) a b c d e h = absurd (omega arith)
-five-set (v ∷ w ∷ x ∷ y ∷ z ∷ l) a b c d e h = refl
+-- places that are enough
+module _ (r p v : ℕ) {b : Bool} (e : b ≡ fits r p v) (t : b ≡ true) where
+  all : fits r p v ≡ true
+  all = sym e ∙ t
 
-module _ (file : List ℕ) (s : Stores) (buffer output report : List ℕ) where
-  -- a report that is too short
-  pub too-short : {number : ℕ} → length report < places → number ≡ 2 → Reported file s buffer output report number s buffer output report
-  too-short l e = record { short = λ _. record { answer = e; stores = refl; series = refl; answers = refl; places = refl }; runs = λ h. absurd (omega arith) }
+  rest : (leb 1792 p && leb 2048 v) ≡ true
+  rest = and-right (leb 10 r) (leb 1792 p && leb 2048 v) all
 
-  -- a replay with its report
-  pub reported : (r : Replayed) (after : Stores) (buffer′ output′ report′ : List ℕ) {number offset : ℕ} → places ≤ length report
-      → Replays file s buffer output r after buffer′ output′
-      → offset ≡ endingOffset (length file) (r .ending)
-      → report′ ≡ over (listed (r .answered) offset (r .desk .opening .quarters) (r .desk .used) (r .desk .count)) report
-      → number ≡ endingNumber (r .ending) → Reported file s buffer output report number after buffer′ output′ report′
-  unfolding viewIn
-  reported r after buffer′ output′ report′ h R o p n =
-      let held = R .desk .view in
-      let quarters = ap (λ (v : View). v .opening .quarters) held in
-      let used = ap (λ (v : View). v .used) held in
-      let count = R .desk .count in
+  pub report-fits : 10 ≤ r
+  report-fits = leb-true 10 r (and-left (leb 10 r) (leb 1792 p && leb 2048 v) all)
+
+  pub points-fit : 1792 ≤ p
+  points-fit = leb-true 1792 p (and-left (leb 1792 p) (leb 2048 v) rest)
+
+  pub versions-fit : 2048 ≤ v
+  versions-fit = leb-true 2048 v (and-right (leb 1792 p) (leb 2048 v) rest)
+
+-- the plain desk answers each call that it is told
+replies : (n : Lengths) (h : List Told) (cs : List Call) → length (plainReplies h (tells n h cs)) ≡ length cs
+unfolding plainReplies tells
+replies n h [] = refl
+replies n h (c ∷ cs) = ap suc (replies n (plainNext h (toldAs n h c)) cs)
+
+answers-told : (s : Stores) (cs : List Sent) → length (numbersOf (plainReplies [] (toldOf s cs))) ≡ length cs
+answers-told s cs = length-map (plainReplies [] (toldOf s cs)) (λ (r : Reply). answerNumber (r .answer)) ∙ replies (lengthsOf s) [] (map given cs) ∙ length-map cs given
+
+module _ (file : List ℕ) (s : Stores) (buffer output : List ℕ) where
+  -- places that are too few
+  pub too-few : (p : Places) {b : Bool} {number : ℕ} → b ≡ fitting p → b ≡ false → number ≡ 2 → Reported file s buffer output p number s buffer output p
+  too-few p {b} e f n =
       record {
-        short = λ l. absurd (omega arith);
-        runs = λ l. record {
-          answer = n ∙ ap endingNumber (R .ending);
-          report = p ∙ rw (o, R .answered, R .ending, quarters, used, count);
-          gives = R .gives;
-        };
+        short = λ _. record { answer = n; stores = refl; series = refl; answers = refl; places = refl };
+        runs = λ t. absurd (true≢false (sym t ∙ sym e ∙ f));
       }
+
+  module _ (r : Replayed) (after : Stores) (buffer′ output′ : List ℕ) (R : Replays file s buffer output r after buffer′ output′) where
+    -- no more calls are answered than there is room for
+    pub answered-fits : r .answered ≤ length output
+    answered-fits =
+        rw (R .answered, length-take (length output) (callsIn (length buffer) file .calls))
+        (min-le-left (length output) (length (callsIn (length buffer) file .calls)))
+
+    answered-are : take (r .answered) output′ ≡ numbersOf (plainReplies [] (toldOf s (callsFor file (length buffer) (length output))))
+    answered-are =
+        let cs = callsFor file (length buffer) (length output) in
+        let l = numbersOf (plainReplies [] (toldOf s cs)) in
+        rw (R .gives .answers) (take-at l (drop (length l) output) (r .answered) (answers-told s cs ∙ sym (R .answered)))
+
+    -- a replay with its report and tables
+    pub reported : (p q : Places) {b : Bool} {number offset : ℕ} {refused : Refusals} → b ≡ fitting p → b ≡ true
+        → offset ≡ endingOffset (length file) (r .ending)
+        → (refused .count ≡ refusals (take (r .answered) output′)) × (refused .first ≡ firstRefused 1 (take (r .answered) output′))
+        → q .report ≡ over (listed (r .answered) offset (r .desk .opening .quarters) (r .desk .used) (r .desk .count) (refused .count) (refused .first) (r .desk .day .0) (r .desk .settled)) (p .report)
+        → q .points ≡ over (pointTable (r .desk .points) (take (r .desk .count) (r .desk .versions))) (p .points)
+        → q .versions ≡ over (versionTable (take (r .desk .count) (r .desk .versions))) (p .versions)
+        → number ≡ endingNumber (r .ending) → Reported file s buffer output p number after buffer′ output′ q
+    unfolding viewIn
+    reported p q e t o f report points versions n =
+        let held = R .desk .view in
+        let quarters = ap (λ (v : View). v .opening .quarters) held in
+        let used = ap (λ (v : View). v .used) held in
+        let day = ap (λ (v : View). v .day) held in
+        let settled = ap (λ (v : View). v .settled) held in
+        let ps = ap (λ (v : View). v .points) held in
+        let vs = ap (λ (v : View). v .versions) held in
+        record {
+          short = λ g. absurd (true≢false (sym t ∙ e ∙ g));
+          runs = λ _. record {
+            answer = n ∙ ap endingNumber (R .ending);
+            report = report ∙ rw (o, f .0, f .1, answered-are, R .answered, R .ending, quarters, used, R .desk .count, day, settled);
+            points = points ∙ rw (ps, vs);
+            versions = versions ∙ rw vs;
+            gives = R .gives;
+          };
+        }

@@ -1,17 +1,21 @@
 -- A whole file through a fresh desk, as plain numbers and slices.
-use Prim.Native.Nat.{ℕ, _≤_, _<_}
+use Prim.Native.Nat.{ℕ}
 use mathlib.Core.Path.{_≡_}
+use mathlib.Core.Bool.{Bool, true, false, _&&_}
 use mathlib.Core.List.{List, [], _∷_}
+use lib.Dec.{leb}
 use lib.ListN.{length}
+use Rattle.state.specs.declared.Runs.{Runs}
 use Rattle.message.specs.Call.{Sent}
 use Rattle.message.specs.Cause.{causeNumber}
 use Rattle.message.specs.File.{callsIn}
 use Rattle.message.specs.declared.FileCause.the-variants.{NoRoom}
 use Rattle.model.specs.Call.{Stores, Told}
-use Rattle.model.specs.Plain.{openingOf, versionsOf, logOf, plainEnd}
-use Rattle.replay.specs.Replay.{callsFor, endingOf, toldOf, over, Gives}
+use Rattle.model.specs.Plain.{openingOf, dayOf, pointsOf, versionsOf, logOf, settledOf, plainReplies, plainEnd}
+use Rattle.replay.specs.Replay.{callsFor, endingOf, toldOf, numbersOf, over, Gives}
 use Rattle.replay.specs.declared.Ending.{Ending}
 use Rattle.replay.specs.declared.Ending.the-variants.{End, Refused, Full}
+use Rattle.host.specs.Table.{pointTable, versionTable, refusals, firstRefused, flagNumber}
 
 -- 0, or the number of the first refusal; 35 too where the answers are full ("output too short")
 abbrev pub endingNumber : Ending → ℕ
@@ -25,33 +29,50 @@ endingOffset n End = n
 endingOffset n (Refused x at) = at
 endingOffset n Full = 0
 
--- the places of a report
-abbrev pub places : ℕ
-places = 5
+-- the places that are lent for what a replay tells: its report, the points, the versions
+pub record Places : Type 0 where
+  pub report : List ℕ
+  pub points : List ℕ
+  pub versions : List ℕ
 
--- how many calls are answered, the offset, Q (0: not open), log rows used, versions held
-abbrev pub listed : (answered offset quarters used held : ℕ) → List ℕ
-listed answered offset quarters used held = answered ∷ offset ∷ quarters ∷ used ∷ held ∷ []
+abbrev pub placesOf : (report points versions : List ℕ) → Places
+placesOf r p v = record { report = r; points = p; versions = v }
 
--- the report on a file of so many bytes, with the plain desk's list
-abbrev pub reportOf : (length answered : ℕ) → Ending → List Told → List ℕ
-reportOf n answered e h = listed answered (endingOffset n e) (openingOf h .quarters) (length (logOf h)) (length (versionsOf h))
+-- ten numbers of a report, seven a point, four a version, for as many as a desk has
+abbrev pub fits : (report points versions : ℕ) → Bool
+fits r p v = leb 10 r && (leb 1792 p && leb 2048 v)
+
+abbrev pub fitting : Places → Bool
+fitting p = fits (length (p .report)) (length (p .points)) (length (p .versions))
+
+-- how many calls are answered, the offset, Q (0: not open), log rows used, versions held, how many calls are refused, which is the first, the
+-- desk's day, whether run 1 is settled and whether run 2 is
+abbrev pub listed : (answered offset quarters used held refused first day : ℕ) → Runs → List ℕ
+listed answered offset quarters used held refused first day settled =
+    answered ∷ offset ∷ quarters ∷ used ∷ held ∷ refused ∷ first ∷ day ∷ flagNumber (settled .first) ∷ flagNumber (settled .second) ∷ []
+
+-- the report on a file of so many bytes, with the plain desk's answers and its list
+abbrev pub reportOf : (length answered : ℕ) → Ending → (answers : List ℕ) → List Told → List ℕ
+reportOf n answered e answers h =
+    listed answered (endingOffset n e) (openingOf h .quarters) (length (logOf h)) (length (versionsOf h)) (refusals answers) (firstRefused 1 answers) (dayOf h) (settledOf h)
 
 -- a file that is run
-pub record Runs (file : List ℕ) (cs : List Sent) (e : Ending) (s : Stores) (buffer output places : List ℕ) (number : ℕ) (after : Stores) (buffer′ output′ places′ : List ℕ) : Type 0 where
+pub record Ran (file : List ℕ) (cs : List Sent) (e : Ending) (s : Stores) (buffer output : List ℕ) (p : Places) (number : ℕ) (after : Stores) (buffer′ output′ : List ℕ) (p′ : Places) : Type 0 where
   pub answer : number ≡ endingNumber e
-  pub report : places′ ≡ over (reportOf (length file) (length cs) e (plainEnd [] (toldOf s cs))) places
+  pub report : p′ .report ≡ over (reportOf (length file) (length cs) e (numbersOf (plainReplies [] (toldOf s cs))) (plainEnd [] (toldOf s cs))) (p .report)
+  pub points : p′ .points ≡ over (pointTable (pointsOf (plainEnd [] (toldOf s cs))) (versionsOf (plainEnd [] (toldOf s cs)))) (p .points)
+  pub versions : p′ .versions ≡ over (versionTable (versionsOf (plainEnd [] (toldOf s cs)))) (p .versions)
   pub gives : Gives cs s buffer output after buffer′ output′
 
--- 2, as for a store of another length: the report is too short, and nothing changes
-pub record Kept (number : ℕ) (s after : Stores) (buffer buffer′ output output′ report report′ : List ℕ) : Type 0 where
+-- 2, as for a store of another length: places are too few, and nothing changes
+pub record Kept (number : ℕ) (s after : Stores) (buffer buffer′ output output′ : List ℕ) (p p′ : Places) : Type 0 where
   pub answer : number ≡ 2
   pub stores : after ≡ s
   pub series : buffer′ ≡ buffer
   pub answers : output′ ≡ output
-  pub places : report′ ≡ report
+  pub places : p′ ≡ p
 
--- either, by the room for the report
-pub record Reported (file : List ℕ) (s : Stores) (buffer output report : List ℕ) (number : ℕ) (after : Stores) (buffer′ output′ report′ : List ℕ) : Type 0 where
-  pub short : length report < places → Kept number s after buffer buffer′ output output′ report report′
-  pub runs : places ≤ length report → Runs file (callsFor file (length buffer) (length output)) (endingOf (length file) (length output) (callsIn (length buffer) file)) s buffer output report number after buffer′ output′ report′
+-- either, by the places lent
+pub record Reported (file : List ℕ) (s : Stores) (buffer output : List ℕ) (p : Places) (number : ℕ) (after : Stores) (buffer′ output′ : List ℕ) (p′ : Places) : Type 0 where
+  pub short : fitting p ≡ false → Kept number s after buffer buffer′ output output′ p p′
+  pub runs : fitting p ≡ true → Ran file (callsFor file (length buffer) (length output)) (endingOf (length file) (length output) (callsIn (length buffer) file)) s buffer output p number after buffer′ output′ p′

@@ -2,5 +2,14 @@
 pub mod call;
 pub mod figure;
 pub mod file;
+pub mod month;
 mod numbers;
 pub mod run;
+pub mod table;
+pub mod version;
+
+// How many answers are refusals, and which call was refused first; 0 without one.
+pub struct Refusals {
+    pub count: u64,
+    pub first: u64,
+}

@@ -1,12 +1,20 @@
 // A whole message file through a fresh desk.
+use crate::Refusals;
+use crate::table::put_points;
+use crate::table::put_row;
+use crate::table::put_versions;
+use crate::table::refusals_of;
 use message::cause;
+use quantity::Day;
 use replay::Ending;
+use state::Runs;
 ghost use mathlib.Core.Path.{_≡_};
 ghost use Rattle.checks.specs.Stepped.{storesOf};
 ghost use Prim.Native.Nat.{_≤_};
 ghost use lib.ListN.{length};
 ghost use Rattle.replay.specs.Replay.{over};
-ghost use Rattle.host.specs.Replay.{endingNumber, endingOffset, places, listed, Reported};
+ghost use Rattle.host.specs.Replay.{endingNumber, endingOffset, fits, listed, placesOf, Reported};
+ghost use Rattle.host.specs.Table.{flagNumber};
 
 fn number_of(ending: Ending) -> u64
     ensures { λ r. ⌜ r ≡ endingNumber ending ⌝ }
@@ -28,20 +36,54 @@ fn offset_of(length: u64, ending: Ending) -> u64
     }
 }
 
-// The five places of a report.
-fn put_report(report: &mut [u64], answered: u64, offset: u64, quarters: u64, used: u64, held: u64)
-    requires { ⌜ places ≤ length (now report) ⌝ }
-    ensures { λ _. ⌜ now (report .exit) ≡ over (listed answered offset quarters used held) (now (report .entry)) ⌝ }
+fn flag_number(flag: bool) -> u64
+    ensures { λ r. ⌜ r ≡ flagNumber flag ⌝ }
 {
-    report[0] = answered;
-    report[1] = offset;
-    report[2] = quarters;
-    report[3] = used;
-    report[4] = held;
+    if flag { 1 } else { 0 }
 }
 
-// 0, or the number of the first refusal; 35 where the answers are full; 2, and nothing is done, where the report has not five places. They are
-// filled with the calls answered, the offset, Q, the log rows used and the versions held.
+// Whether the places lent are as many as a report, the points and the versions take.
+fn all_fit(report: usize, points: usize, versions: usize) -> bool
+    ensures { λ r. ⌜ r ≡ fits report points versions ⌝ }
+{
+    (10 <= report) & ((1792 <= points) & (2048 <= versions))
+}
+
+// The ten places of a report.
+fn put_report(
+    report: &mut [u64],
+    answered: u64,
+    offset: u64,
+    quarters: u64,
+    used: u64,
+    held: u64,
+    refused: Refusals,
+    day: Day,
+    settled: Runs,
+)
+    requires { ⌜ 10 ≤ length (now report) ⌝ }
+    ensures { λ _. ⌜ now (report .exit) ≡ over (listed answered offset quarters used held (refused .count) (refused .first) (day .0) settled) (now (report .entry)) ⌝ }
+{
+    let first = flag_number(settled.first);
+    let second = flag_number(settled.second);
+    let numbers = [
+        answered,
+        offset,
+        quarters,
+        used,
+        held,
+        refused.count,
+        refused.first,
+        day.0,
+        first,
+        second,
+    ];
+    put_row(report, 0, &numbers);
+}
+
+// 0, or the number of the first refusal; 35 where the answers are full; 2, and nothing is done, where a report, the points or the versions have fewer
+// places than ten, 1,792 and 2,048. The report tells the calls answered, the offset, Q, the log rows used, the versions held, the calls
+// refused and the first of them, the day, and which runs are settled.
 #[no_mangle]
 pub extern "C" fn emorizugu_replay(
     file: &[u8],
@@ -51,10 +93,12 @@ pub extern "C" fn emorizugu_replay(
     series: &mut [u64],
     answers: &mut [u64],
     report: &mut [u64],
+    points: &mut [u64],
+    versions: &mut [u64],
 ) -> u64
-    ensures { λ r. ⌜ Reported (now (file .entry)) (storesOf (now (values .entry)) (now (book .entry)) (now (log .entry))) (now (series .entry)) (now (answers .entry)) (now (report .entry)) r (storesOf (now (values .exit)) (now (book .exit)) (now (log .exit))) (now (series .exit)) (now (answers .exit)) (now (report .exit)) ⌝ }
+    ensures { λ r. ⌜ Reported (now (file .entry)) (storesOf (now (values .entry)) (now (book .entry)) (now (log .entry))) (now (series .entry)) (now (answers .entry)) (placesOf (now (report .entry)) (now (points .entry)) (now (versions .entry))) r (storesOf (now (values .exit)) (now (book .exit)) (now (log .exit))) (now (series .exit)) (now (answers .exit)) (placesOf (now (report .exit)) (now (points .exit)) (now (versions .exit))) ⌝ }
 {
-    if report.len() < 5 {
+    if !all_fit(report.len(), points.len(), versions.len()) {
         return 2;
     }
     let run = replay::replay(file, values, book, log, series, answers);
@@ -62,6 +106,9 @@ pub extern "C" fn emorizugu_replay(
     let desk = run.desk;
     let opening = desk.opening;
     let offset = offset_of(file.len() as u64, ending);
+    let refused = refusals_of(answers, run.answered);
+    let day = desk.day;
+    let settled = desk.settled;
     put_report(
         report,
         run.answered as u64,
@@ -69,6 +116,13 @@ pub extern "C" fn emorizugu_replay(
         opening.quarters,
         desk.used,
         desk.count,
+        refused,
+        day,
+        settled,
     );
+    let table = desk.points;
+    let held = desk.versions;
+    put_points(points, table, held, desk.count);
+    put_versions(versions, held, desk.count);
     number_of(ending)
 }

@@ -1,4 +1,5 @@
 // The desk's points and versions as numbers, and how many of its answers are refusals.
+use crate::Refusals;
 use amend::copies::copy_row;
 use lookup::surveys::survey;
 use quantity::PointNo;
@@ -16,12 +17,6 @@ ghost use Rattle.book.specs.Row.{splice};
 ghost use Rattle.replay.specs.Replay.{over};
 ghost use Rattle.state.specs.Selection.{versionOf, selected};
 ghost use Rattle.host.specs.Table.{pointPlaces, pointTable, versionPlaces, versionTable, refusals, firstRefused};
-
-// How many answers are refusals, and which call was refused first; 0 without one.
-pub struct Refusals {
-    pub count: u64,
-    pub first: u64,
-}
 
 // A row into the places from `at` on.
 pub fn put_row(out: &mut [u64], at: usize, row: &[u64])

@@ -1,12 +1,18 @@
 -- `emorizugu_replay` meets its contract. Assumes nothing.
 use mathlib.Core.Path.{refl}
-use Rattle.host.proofs.Reports.{too-short, reported}
+use lib.ListN.{length}
+use native.Mathlib.Omega.{arith}
+use borrow.Author.Tests.{not-true, not-false}
+use Rattle.host.proofs.Reports.{report-fits, points-fit, versions-fit, too-few, answered-fits, reported}
 use borrow.Author.Needs.{needs}
 use Rattle.host.proofs.run.emorizugu_replay.Statement.{statement}
 use Rattle.host.proofs.run.emorizugu_replay.Tie as tie
 
+all-fit-requires : tie.Need-all-fit-requires
+all-fit-requires c κs = search needs
+
 returns : tie.Need-returns
-returns c = too-short _ _ _ _ _ (c .if1 .taken) refl
+returns c = too-few _ _ _ _ _ (c .before .all-fit .ensures) (not-true _ (c .if1 .taken)) refl
 
 replay-requires : tie.Need-replay-requires
 replay-requires c κs = search needs
@@ -14,8 +20,23 @@ replay-requires c κs = search needs
 offset-of-requires : tie.Need-offset-of-requires
 offset-of-requires c κs = search needs
 
+refusals-of-requires : tie.Need-refusals-of-requires
+refusals-of-requires c κs = omega (arith, answered-fits _ _ _ _ _ _ _ _ (c .before .before .before .before .before .before .before .before .before .before .before .before .before .before .replay .ensures))
+
 put-report-requires : tie.Need-put-report-requires
-put-report-requires c κs = search needs
+put-report-requires c κs =
+    let a = c .before .before .before .before .before .before .before .before .before .before .before .before .before .before .before .before .before .before .before .before .before .before .before .before .before .before .before .before .before .before .before .before .before .before .before .args in
+    report-fits (length (a .report .now)) (length (a .points .now)) (length (a .versions .now)) (c .before .before .before .before .before .before .before .before .before .before .before .before .before .before .before .before .before .before .before .before .before .before .before .before .before .all-fit .ensures) (not-false _ (c .before .before .before .before .before .before .before .before .before .before .before .before .before .before .before .before .before .before .before .before .before .before .before .before .if1 .left))
+
+put-points-requires : tie.Need-put-points-requires
+put-points-requires c κs =
+    let a = c .before .before .before .before .before .before .before .before .before .before .before .before .before .before .before .before .before .before .before .before .before .before .before .before .before .before .before .before .before .before .before .before .before .before .before .before .before .before .before .before .before .args in
+    points-fit (length (a .report .now)) (length (a .points .now)) (length (a .versions .now)) (c .before .before .before .before .before .before .before .before .before .before .before .before .before .before .before .before .before .before .before .before .before .before .before .before .before .before .before .before .before .before .before .all-fit .ensures) (not-false _ (c .before .before .before .before .before .before .before .before .before .before .before .before .before .before .before .before .before .before .before .before .before .before .before .before .before .before .before .before .before .before .if1 .left))
+
+put-versions-requires : tie.Need-put-versions-requires
+put-versions-requires c κs =
+    let a = c .before .before .before .before .before .before .before .before .before .before .before .before .before .before .before .before .before .before .before .before .before .before .before .before .before .before .before .before .before .before .before .before .before .before .before .before .before .before .before .before .before .before .before .before .before .args in
+    versions-fit (length (a .report .now)) (length (a .points .now)) (length (a .versions .now)) (c .before .before .before .before .before .before .before .before .before .before .before .before .before .before .before .before .before .before .before .before .before .before .before .before .before .before .before .before .before .before .before .before .before .before .before .all-fit .ensures) (not-false _ (c .before .before .before .before .before .before .before .before .before .before .before .before .before .before .before .before .before .before .before .before .before .before .before .before .before .before .before .before .before .before .before .before .before .before .if1 .left))
 
 number-of-requires : tie.Need-number-of-requires
 number-of-requires c κs = search needs
@@ -38,18 +59,28 @@ same-length-5 c = search needs
 same-length-6 : tie.Need-same-length-6
 same-length-6 c = search needs
 
+same-length-7 : tie.Need-same-length-7
+same-length-7 c = search needs
+
+same-length-8 : tie.Need-same-length-8
+same-length-8 c = search needs
+
 returns-2 : tie.Need-returns-2
 returns-2 c =
-    reported _ _ _ _ _ _ _ _ _ _ (c .before .before .before .before .before .before .before .before .before .before .before .before .before .before .before .before .before .before .before .before .before .before .before .before .if1 .left) (c .before .before .before .before .before .before .before .before .before .before .before .before .before .before .before .before .before .before .replay .ensures) (c .before .before .before .before .before .offset-of .ensures) (c .before .before .before .put-report .ensures) (c .number-of .ensures)
+    reported _ _ _ _ _ _ _ _ (c .before .before .before .before .before .before .before .before .before .before .before .before .before .before .before .before .before .before .before .before .before .before .before .before .before .before .before .before .before .before .before .before .replay .ensures) _ _ (c .before .before .before .before .before .before .before .before .before .before .before .before .before .before .before .before .before .before .before .before .before .before .before .before .before .before .before .before .before .before .before .before .before .before .before .before .before .before .before .all-fit .ensures) (not-false _ (c .before .before .before .before .before .before .before .before .before .before .before .before .before .before .before .before .before .before .before .before .before .before .before .before .before .before .before .before .before .before .before .before .before .before .before .before .before .before .if1 .left)) (c .before .before .before .before .before .before .before .before .before .before .before .before .before .before .before .before .before .before .before .offset-of .ensures) (c .before .before .before .before .before .before .before .before .before .before .before .before .before .before .before .before .before .refusals-of .ensures) (c .before .before .before .before .before .before .before .before .before .before .before .before .before .put-report .ensures) (c .before .before .before .before .before .before .before .put-points .ensures) (c .before .before .before .put-versions .ensures) (c .number-of .ensures)
 
 pub emorizugu-replay-spec : {M : Type 1} → statement M
 emorizugu-replay-spec =
     tie.close
     (tie.spec
+    all-fit-requires
     returns
     replay-requires
     offset-of-requires
+    refusals-of-requires
     put-report-requires
+    put-points-requires
+    put-versions-requires
     number-of-requires
     same-length
     same-length-2
@@ -57,4 +88,6 @@ emorizugu-replay-spec =
     same-length-4
     same-length-5
     same-length-6
+    same-length-7
+    same-length-8
     returns-2)

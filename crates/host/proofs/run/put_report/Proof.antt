@@ -1,40 +1,36 @@
 -- `put_report` meets its contract. Assumes nothing.
-use native.Mathlib.Omega.{arith}
-use lib.ListN.{set, length-set}
-use Rattle.host.proofs.Reports.{five-set}
+use mathlib.Core.Path.{_∙_}
+use Rattle.book.specs.Row.{splice}
 use borrow.Author.Needs.{needs}
 use Rattle.host.proofs.run.put_report.Statement.{statement}
 use Rattle.host.proofs.run.put_report.Tie as tie
 
-slice-write-report : tie.Need-slice-write-report
-slice-write-report c = search needs
+flag-number-requires : tie.Need-flag-number-requires
+flag-number-requires c κs = search needs
 
-slice-write-report-2 : tie.Need-slice-write-report-2
-slice-write-report-2 c = omega (arith, c .pre, length-set (c .args .report .now) 0 (c .args .answered))
+flag-number-requires-2 : tie.Need-flag-number-requires-2
+flag-number-requires-2 c κs = search needs
 
-slice-write-report-3 : tie.Need-slice-write-report-3
-slice-write-report-3 c = omega (arith, c .pre, length-set (c .args .report .now) 0 (c .args .answered), length-set (set (c .args .report .now) 0 (c .args .answered)) 1 (c .args .offset))
+slice-aggregate-put-row : tie.Need-slice-aggregate-put-row
+slice-aggregate-put-row c = search needs
 
-slice-write-report-4 : tie.Need-slice-write-report-4
-slice-write-report-4 c = omega (arith, c .pre, length-set (c .args .report .now) 0 (c .args .answered), length-set (set (c .args .report .now) 0 (c .args .answered)) 1 (c .args .offset), length-set (set (set (c .args .report .now) 0 (c .args .answered)) 1 (c .args .offset)) 2 (c .args .quarters))
-
-slice-write-report-5 : tie.Need-slice-write-report-5
-slice-write-report-5 c = search needs
+put-row-requires : tie.Need-put-row-requires
+put-row-requires c κs = search needs
 
 same-length : tie.Need-same-length
 same-length c = search needs
 
 returns : tie.Need-returns
-returns c = let a = c .args in five-set (a .report .now) (a .answered) (a .offset) (a .quarters) (a .used) (a .held) (c .pre)
+unfolding splice
+returns c = c .before .before .put-row .ensures ∙ rw (c .before .before .before .before .before .before .flag-number .ensures, c .before .before .before .before .before .flag-number2 .ensures)
 
 pub put-report-spec : {M : Type 1} → statement M
 put-report-spec =
     tie.close
     (tie.spec
-    slice-write-report
-    slice-write-report-2
-    slice-write-report-3
-    slice-write-report-4
-    slice-write-report-5
+    flag-number-requires
+    flag-number-requires-2
+    slice-aggregate-put-row
+    put-row-requires
     same-length
     returns)
