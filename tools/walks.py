@@ -86,7 +86,7 @@ def read_type(text, uses, named):
     if text == 'u64':
         return Type('u64', 'uint-vals w64', 'uint-tells w64', 'uint-lawful 𝓤 H A W w64')
     array = re.fullmatch(r'\[u64; (\w+) as usize\]', text)
-    if array:
+    if array and array.group(1) in uses:
         n = constant(uses[array.group(1)][0], array.group(1))
         return Type(f'Array u64 {n}', 'array-vals (uint-vals w64)', f'array-tells u64 (uint-vals w64) (uint-tells w64) {n}',
                     f'array-lawful 𝓤 H A W u64 (uint-lawful 𝓤 H A W w64) {n}')
