@@ -1,5 +1,5 @@
 // For tests only: a script of the nine calls on a fresh desk, each with its own lengths of the stores; and damage to the desk's fields.
-pub mod via;
+mod via;
 
 use crate::via::via_apply;
 use crate::via::via_open;
