@@ -3,7 +3,6 @@ use mathlib.Core.Path.{sym, ap, _∙_}
 use Prim.Native.Nat.{_+_, _≤_}
 use native.Mathlib.Omega.{arith}
 use lib.ListN.{length}
-use Rattle.state.proofs.Bounds.{sound}
 use Rattle.model.specs.Call.{lengthsOf}
 use Rattle.model.specs.Step.{Outcome}
 use Rattle.checks.specs.Lent.{withBookLength}
