@@ -10,13 +10,12 @@ use lib.Dec.{leb}
 use lib.ListN.{length, take, drop, length-take, length-map}
 use lib.Seq.{take-at}
 use Rattle.quantity.proofs.Tests.{and-left, and-right}
-use Rattle.message.specs.Call.{Sent}
 use Rattle.message.specs.File.{callsIn}
 use Rattle.model.specs.Call.{Call, Stores, Lengths, lengthsOf, Told, Reply, answerNumber}
 use Rattle.model.specs.Plain.{viewIn, plainReplies, plainEnd, plainNext}
 use Rattle.model.specs.View.{View}
 use Rattle.replay.specs.Feeding.{toldAs, tells}
-use Rattle.replay.specs.Given.{given}
+use Rattle.replay.specs.Given.{Given, given, givenIn}
 use Rattle.replay.specs.Replay.{callsFor, toldOf, numbersOf, over, Replays}
 use Rattle.replay.specs.declared.Replayed.{Replayed}
 use Rattle.host.specs.Replay.{endingNumber, endingOffset, fits, fitting, listed, Places, placesOf, Reported}
@@ -46,7 +45,7 @@ unfolding plainReplies tells
 replies n h [] = refl
 replies n h (c ∷ cs) = ap suc (replies n (plainNext h (toldAs n h c)) cs)
 
-answers-told : (s : Stores) (cs : List Sent) → length (numbersOf (plainReplies [] (toldOf s cs))) ≡ length cs
+answers-told : (s : Stores) (cs : List Given) → length (numbersOf (plainReplies [] (toldOf s cs))) ≡ length cs
 answers-told s cs = length-map (plainReplies [] (toldOf s cs)) (λ (r : Reply). answerNumber (r .answer)) ∙ replies (lengthsOf s) [] (map given cs) ∙ length-map cs given
 
 module _ (file : List ℕ) (s : Stores) (buffer output : List ℕ) where
@@ -62,8 +61,8 @@ module _ (file : List ℕ) (s : Stores) (buffer output : List ℕ) where
     -- no more calls are answered than there is room for
     pub answered-fits : r .answered ≤ length output
     answered-fits =
-        rw (R .answered, length-take (length output) (callsIn (length buffer) file .calls))
-        (min-le-left (length output) (length (callsIn (length buffer) file .calls)))
+        rw (R .answered, length-take (length output) (givenIn (callsIn (length buffer) file .calls)))
+        (min-le-left (length output) (length (givenIn (callsIn (length buffer) file .calls))))
 
     answered-are : take (r .answered) output′ ≡ numbersOf (plainReplies [] (toldOf s (callsFor file (length buffer) (length output))))
     answered-are =
@@ -75,24 +74,25 @@ module _ (file : List ℕ) (s : Stores) (buffer output : List ℕ) where
     pub reported : (p q : Places) {b : Bool} {number offset : ℕ} {refused : Refusals} → b ≡ fitting p → b ≡ true
         → offset ≡ endingOffset (length file) (r .ending)
         → (refused .count ≡ refusals (take (r .answered) output′)) × (refused .first ≡ firstRefused 1 (take (r .answered) output′))
-        → q .report ≡ over (listed (r .answered) offset (r .desk .opening .quarters) (r .desk .used) (r .desk .count) (refused .count) (refused .first) (r .desk .day .0) (r .desk .settled)) (p .report)
-        → q .points ≡ over (pointTable (r .desk .points) (take (r .desk .count) (r .desk .versions))) (p .points)
-        → q .versions ≡ over (versionTable (take (r .desk .count) (r .desk .versions))) (p .versions)
+        → q .report ≡ over (listed (r .answered) offset (r .desk .frame .opening .quarters) (r .desk .frame .used) (r .desk .frame .count) (refused .count) (refused .first) (r .desk .frame .day .0) (r .desk .frame .settled)) (p .report)
+        → q .points ≡ over (pointTable (r .desk .points) (take (r .desk .frame .count) (r .desk .versions))) (p .points)
+        → q .versions ≡ over (versionTable (take (r .desk .frame .count) (r .desk .versions))) (p .versions)
         → number ≡ endingNumber (r .ending) → Reported file s buffer output p number after buffer′ output′ q
     unfolding viewIn
     reported p q e t o f report points versions n =
         let held = R .desk .view in
-        let quarters = ap (λ (v : View). v .opening .quarters) held in
-        let used = ap (λ (v : View). v .used) held in
-        let day = ap (λ (v : View). v .day) held in
-        let settled = ap (λ (v : View). v .settled) held in
+        let quarters = ap (λ (v : View). v .frame .opening .quarters) held in
+        let used = ap (λ (v : View). v .frame .used) held in
+        let count = ap (λ (v : View). v .frame .count) held in
+        let day = ap (λ (v : View). v .frame .day .0) held in
+        let settled = ap (λ (v : View). v .frame .settled) held in
         let ps = ap (λ (v : View). v .points) held in
         let vs = ap (λ (v : View). v .versions) held in
         record {
           short = λ g. absurd (true≢false (sym t ∙ e ∙ g));
           runs = λ _. record {
             answer = n ∙ ap endingNumber (R .ending);
-            report = report ∙ rw (o, f .0, f .1, answered-are, R .answered, R .ending, quarters, used, R .desk .count, day, settled);
+            report = report ∙ rw (o, f .0, f .1, answered-are, R .answered, R .ending, quarters, used, count, day, settled);
             points = points ∙ rw (ps, vs);
             versions = versions ∙ rw vs;
             gives = R .gives;

@@ -6,7 +6,7 @@ use mathlib.Core.List.{List, [], _∷_}
 use lib.Dec.{leb}
 use lib.ListN.{length}
 use Rattle.state.specs.declared.Runs.{Runs}
-use Rattle.message.specs.Call.{Sent}
+use Rattle.replay.specs.Given.{Given}
 use Rattle.message.specs.Cause.{causeNumber}
 use Rattle.message.specs.File.{callsIn}
 use Rattle.message.specs.declared.FileCause.the-variants.{NoRoom}
@@ -57,7 +57,7 @@ reportOf n answered e answers h =
     listed answered (endingOffset n e) (openingOf h .quarters) (length (logOf h)) (length (versionsOf h)) (refusals answers) (firstRefused 1 answers) (dayOf h) (settledOf h)
 
 -- a file that is run
-pub record Ran (file : List ℕ) (cs : List Sent) (e : Ending) (s : Stores) (buffer output : List ℕ) (p : Places) (number : ℕ) (after : Stores) (buffer′ output′ : List ℕ) (p′ : Places) : Type 0 where
+pub record Ran (file : List ℕ) (cs : List Given) (e : Ending) (s : Stores) (buffer output : List ℕ) (p : Places) (number : ℕ) (after : Stores) (buffer′ output′ : List ℕ) (p′ : Places) : Type 0 where
   pub answer : number ≡ endingNumber e
   pub report : p′ .report ≡ over (reportOf (length file) (length cs) e (numbersOf (plainReplies [] (toldOf s cs))) (plainEnd [] (toldOf s cs))) (p .report)
   pub points : p′ .points ≡ over (pointTable (pointsOf (plainEnd [] (toldOf s cs))) (versionsOf (plainEnd [] (toldOf s cs)))) (p .points)

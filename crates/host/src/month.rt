@@ -3,7 +3,7 @@ use book::place::row_start;
 use quantity::WattHours;
 use quantity::limits;
 use quantity::word;
-use writer::fields::number_at;
+use writer::fields::field_at;
 ghost use mathlib.Core.Path.{_≡_};
 ghost use Prim.Native.Nat.{_≤_};
 ghost use Rattle.host.specs.Month.{sumFrom, rowOk, monthOf, differenceOf};
@@ -16,7 +16,7 @@ fn sum_from(book: &[u64], start: usize, q: usize) -> WattHours
     let mut sum = WattHours(0);
     let mut n = 0;
     while n < q {
-        let figure = number_at(book, start + n);
+        let figure = field_at(book, start + n);
         sum = word::sum(sum, WattHours(figure));
         n += 1;
     }

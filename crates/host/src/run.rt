@@ -104,25 +104,26 @@ pub extern "C" fn emorizugu_replay(
     let run = replay::replay(file, values, book, log, series, answers);
     let ending = run.ending;
     let desk = run.desk;
-    let opening = desk.opening;
+    let f = desk.frame;
+    let opening = f.opening;
     let offset = offset_of(file.len() as u64, ending);
     let refused = refusals_of(answers, run.answered);
-    let day = desk.day;
-    let settled = desk.settled;
+    let day = f.day;
+    let settled = f.settled;
     put_report(
         report,
         run.answered as u64,
         offset,
         opening.quarters,
-        desk.used,
-        desk.count,
+        f.used,
+        f.count,
         refused,
         day,
         settled,
     );
     let table = desk.points;
     let held = desk.versions;
-    put_points(points, table, held, desk.count);
-    put_versions(versions, held, desk.count);
+    put_points(points, table, held, f.count);
+    put_versions(versions, held, f.count);
     number_of(ending)
 }

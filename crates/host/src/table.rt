@@ -1,13 +1,13 @@
 // The desk's points and versions as numbers, and how many of its answers are refusals.
-use crate::Refusals;
 use amend::copies::copy_row;
-use lookup::surveys::survey;
+use checks::surveys::survey;
+use crate::Refusals;
 use quantity::PointNo;
 use quantity::Version;
 use state::PointRecord;
 use state::PointState;
 use state::VersionRecord;
-use state::selections::in_run;
+use state::selections::or_else;
 use state::selections::version_of;
 use state::statuses::number;
 ghost use mathlib.Core.Path.{_≡_};
@@ -59,8 +59,8 @@ fn point_row(state: PointState, versions: [VersionRecord; 512], count: u64, i: u
     let second = s.second;
     point_places(
         state,
-        version_of(in_run(1, first, second)),
-        version_of(in_run(2, first, second)),
+        version_of(first),
+        version_of(or_else(second, first)),
     )
 }
 

@@ -17,11 +17,11 @@ abbrev μ-loop : tie.MeasureT-loop
 loop-holds : tie.Need-loop-holds Inv-loop μ-loop
 loop-holds c = (search needs, search needs, search needs, sum-none _ _)
 
-add-number-at : tie.Need-add-number-at Inv-loop μ-loop
-add-number-at c = search needs
+add-field-at : tie.Need-add-field-at Inv-loop μ-loop
+add-field-at c = search needs
 
-number-at-requires : tie.Need-number-at-requires Inv-loop μ-loop
-number-at-requires c κs = search needs
+field-at-requires : tie.Need-field-at-requires Inv-loop μ-loop
+field-at-requires c κs = search needs
 
 sum-requires : tie.Need-sum-requires Inv-loop μ-loop
 sum-requires c κs = search needs
@@ -33,7 +33,7 @@ loop-less : tie.Need-loop-less Inv-loop μ-loop
 loop-less c = search needs
 
 loop-again : tie.Need-loop-again Inv-loop μ-loop
-loop-again c = (search needs, search needs, search needs, sum-more _ _ _ (c .before .before .before .loop .inv .3) (c .before .number-at .ensures) (c .sum .ensures))
+loop-again c = (search needs, search needs, search needs, sum-more _ _ _ (c .before .before .before .loop .inv .3) (c .before .field-at .ensures) (c .sum .ensures))
 
 returns : tie.Need-returns Inv-loop μ-loop
 returns c = let e : c .before .loop .n ≡ c .before .before .before .args .q = search needs in rw e at (c .before .loop .inv .3)
@@ -45,8 +45,8 @@ sum-from-spec =
     Inv-loop
     μ-loop
     loop-holds
-    add-number-at
-    number-at-requires
+    add-field-at
+    field-at-requires
     sum-requires
     add-n
     loop-less

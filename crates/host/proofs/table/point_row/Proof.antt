@@ -11,14 +11,11 @@ add-t8 c = search needs
 survey-requires : tie.Need-survey-requires
 survey-requires c κs = search needs
 
-in-run-requires : tie.Need-in-run-requires
-in-run-requires c κs = search needs
-
 version-of-requires : tie.Need-version-of-requires
 version-of-requires c κs = search needs
 
-in-run-requires-2 : tie.Need-in-run-requires-2
-in-run-requires-2 c κs = search needs
+or-else-requires : tie.Need-or-else-requires
+or-else-requires c κs = search needs
 
 version-of-requires-2 : tie.Need-version-of-requires-2
 version-of-requires-2 c κs = search needs
@@ -28,9 +25,9 @@ point-places-requires c κs = search needs
 
 returns : tie.Need-returns
 returns c =
-    let s = c .before .before .before .before .before .survey .ensures .0 in
+    let s = c .before .before .before .before .survey .ensures in
     c .point-places .ensures
-    ∙ rw (c .before .version-of2 .ensures, c .before .before .before .version-of .ensures, c .before .before .in-run2 .ensures, c .before .before .before .before .in-run .ensures, s .first, s .second, add-one (c .before .before .before .before .before .before .args .i))
+    ∙ rw (c .before .version-of2 .ensures, c .before .before .before .version-of .ensures, c .before .before .or-else .ensures, s .first, s .second, add-one (c .before .before .before .before .before .args .i))
 
 pub point-row-spec : {M : Type 1} → statement M
 point-row-spec =
@@ -38,9 +35,8 @@ point-row-spec =
     (tie.spec
     add-t8
     survey-requires
-    in-run-requires
     version-of-requires
-    in-run-requires-2
+    or-else-requires
     version-of-requires-2
     point-places-requires
     returns)
