@@ -18,8 +18,8 @@ use Rattle.replay.specs.Feeding.{toldAs, tells}
 use Rattle.replay.specs.Given.{Given, given, givenIn}
 use Rattle.replay.specs.Replay.{callsFor, toldOf, numbersOf, over, Replays}
 use Rattle.replay.specs.declared.Replayed.{Replayed}
-use Rattle.host.specs.Replay.{endingNumber, endingOffset, fits, fitting, listed, Places, placesOf, Reported}
-use Rattle.host.specs.Table.{pointTable, versionTable, refusals, firstRefused}
+use Rattle.host.specs.Replay.{endingNumber, endingOffset, reportPlaces, fits, fitting, listed, Places, placesOf, Reported}
+use Rattle.host.specs.Table.{pointsPlaces, versionsPlaces, pointTable, versionTable, refusals, firstRefused}
 use Rattle.host.specs.declared.Refusals.{Refusals}
 
 -- places that are enough
@@ -27,17 +27,17 @@ module _ (r p v : ℕ) {b : Bool} (e : b ≡ fits r p v) (t : b ≡ true) where
   all : fits r p v ≡ true
   all = sym e ∙ t
 
-  rest : (leb 1792 p && leb 2048 v) ≡ true
-  rest = and-right (leb 10 r) (leb 1792 p && leb 2048 v) all
+  rest : (leb pointsPlaces p && leb versionsPlaces v) ≡ true
+  rest = and-right (leb reportPlaces r) (leb pointsPlaces p && leb versionsPlaces v) all
 
-  pub report-fits : 10 ≤ r
-  report-fits = leb-true 10 r (and-left (leb 10 r) (leb 1792 p && leb 2048 v) all)
+  pub report-fits : reportPlaces ≤ r
+  report-fits = leb-true reportPlaces r (and-left (leb reportPlaces r) (leb pointsPlaces p && leb versionsPlaces v) all)
 
-  pub points-fit : 1792 ≤ p
-  points-fit = leb-true 1792 p (and-left (leb 1792 p) (leb 2048 v) rest)
+  pub points-fit : pointsPlaces ≤ p
+  points-fit = leb-true pointsPlaces p (and-left (leb pointsPlaces p) (leb versionsPlaces v) rest)
 
-  pub versions-fit : 2048 ≤ v
-  versions-fit = leb-true 2048 v (and-right (leb 1792 p) (leb 2048 v) rest)
+  pub versions-fit : versionsPlaces ≤ v
+  versions-fit = leb-true versionsPlaces v (and-right (leb pointsPlaces p) (leb versionsPlaces v) rest)
 
 -- the plain desk answers each call that it is told
 replies : (n : Lengths) (h : List Told) (cs : List Call) → length (plainReplies h (tells n h cs)) ≡ length cs

@@ -15,7 +15,7 @@ use Rattle.model.specs.Plain.{openingOf, dayOf, pointsOf, versionsOf, logOf, se
 use Rattle.replay.specs.Replay.{callsFor, endingOf, toldOf, numbersOf, over, Gives}
 use Rattle.replay.specs.declared.Ending.{Ending}
 use Rattle.replay.specs.declared.Ending.the-variants.{End, Refused, Full}
-use Rattle.host.specs.Table.{pointTable, versionTable, refusals, firstRefused, flagNumber}
+use Rattle.host.specs.Table.{pointsPlaces, versionsPlaces, pointTable, versionTable, refusals, firstRefused, flagNumber}
 
 -- 0, or the number of the first refusal; 35 too where the answers are full ("output too short")
 abbrev pub endingNumber : Ending → ℕ
@@ -38,9 +38,13 @@ pub record Places : Type 0 where
 abbrev pub placesOf : (report points versions : List ℕ) → Places
 placesOf r p v = record { report = r; points = p; versions = v }
 
--- ten numbers of a report, seven a point, four a version, for as many as a desk has
+-- how many numbers a report has
+abbrev pub reportPlaces : ℕ
+reportPlaces = 10
+
+-- for a report, for every point and for every version that a desk can hold
 abbrev pub fits : (report points versions : ℕ) → Bool
-fits r p v = leb 10 r && (leb 1792 p && leb 2048 v)
+fits r p v = leb reportPlaces r && (leb pointsPlaces p && leb versionsPlaces v)
 
 abbrev pub fitting : Places → Bool
 fitting p = fits (length (p .report)) (length (p .points)) (length (p .versions))

@@ -1,10 +1,10 @@
 -- The desk's points and versions as numbers, and how many of its answers are refusals.
-use Prim.Native.Nat.{ℕ, zero, suc}
+use Prim.Native.Nat.{ℕ, zero, suc, _*_}
 use mathlib.Core.Bool.{Bool, true, false, cond}
 use mathlib.Core.List.{List, [], _∷_, _++_}
 use lib.Dec.{eqb}
 use lib.ListN.{length}
-use Rattle.quantity.specs.Limits.{points}
+use Rattle.quantity.specs.Limits.{points, versions}
 use Rattle.state.specs.Point.{pointAt}
 use Rattle.state.specs.Selection.{versionOf, selected}
 use Rattle.state.specs.Status.{statusNumber}
@@ -18,6 +18,20 @@ use Rattle.state.specs.declared.VersionRecord.{VersionRecord}
 unfoldable pub rowsTo : ℕ → (ℕ → List ℕ) → List ℕ
 rowsTo zero f = []
 rowsTo (suc n) f = rowsTo n f ++ f n
+
+-- how many numbers a point has, and how many a version
+abbrev pub pointNumbers : ℕ
+pointNumbers = 7
+
+abbrev pub versionNumbers : ℕ
+versionNumbers = 4
+
+-- places for every point, and for every version that a desk can hold
+abbrev pub pointsPlaces : ℕ
+pointsPlaces = pointNumbers * points
+
+abbrev pub versionsPlaces : ℕ
+versionsPlaces = versionNumbers * versions
 
 -- a point: 1 where it is active, the day of its activation, kind, area and partner (all 0 of a free one), the version that run 1 selects and
 -- the one that run 2 selects (0: none)

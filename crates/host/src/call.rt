@@ -1,4 +1,5 @@
 // One call of a message file read, and one call written, as numbers in slices.
+use crate::TOO_SHORT;
 use crate::numbers;
 use message::call::MOST_FIELDS;
 use message::cause;
@@ -23,9 +24,6 @@ const PLACES: usize = COUNT_AT + 1;
 
 // No call follows.
 const NO_CALL: u64 = 1;
-
-// The slice for what is answered has too few places.
-const TOO_SHORT: u64 = 2;
 
 // What was read, into its places.
 fn fill_out(out: &mut [u64], first: u64, kind: u64, fields: [u64; MOST_FIELDS], count: u64)

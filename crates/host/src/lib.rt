@@ -8,6 +8,9 @@ pub mod run;
 pub mod table;
 pub mod version;
 
+// A slice that is lent has too few places.
+pub const TOO_SHORT: u64 = 2;
+
 // How many answers are refusals, and which call was refused first; 0 without one.
 pub struct Refusals {
     pub count: u64,

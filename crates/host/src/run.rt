@@ -1,5 +1,8 @@
 // A whole message file through a fresh desk.
 use crate::Refusals;
+use crate::TOO_SHORT;
+use crate::table::POINT_PLACES;
+use crate::table::VERSION_PLACES;
 use crate::table::put_points;
 use crate::table::put_row;
 use crate::table::put_versions;
@@ -13,8 +16,11 @@ ghost use Rattle.checks.specs.Stepped.{storesOf};
 ghost use Prim.Native.Nat.{_≤_};
 ghost use lib.ListN.{length};
 ghost use Rattle.replay.specs.Replay.{over};
-ghost use Rattle.host.specs.Replay.{endingNumber, endingOffset, fits, listed, placesOf, Reported};
+ghost use Rattle.host.specs.Replay.{endingNumber, endingOffset, reportPlaces, fits, listed, placesOf, Reported};
 ghost use Rattle.host.specs.Table.{flagNumber};
+
+// How many numbers a report has.
+const REPORT_PLACES: usize = 10;
 
 fn number_of(ending: Ending) -> u64
     ensures { λ r. ⌜ r ≡ endingNumber ending ⌝ }
@@ -22,7 +28,7 @@ fn number_of(ending: Ending) -> u64
     match ending {
         Ending::End => 0,
         Ending::Refused { cause, offset: _ } => cause::number_of(cause),
-        Ending::Full => 35,
+        Ending::Full => cause::NO_ROOM,
     }
 }
 
@@ -46,7 +52,7 @@ fn flag_number(flag: bool) -> u64
 fn all_fit(report: usize, points: usize, versions: usize) -> bool
     ensures { λ r. ⌜ r ≡ fits report points versions ⌝ }
 {
-    (10 <= report) & ((1792 <= points) & (2048 <= versions))
+    (REPORT_PLACES <= report) & ((POINT_PLACES <= points) & (VERSION_PLACES <= versions))
 }
 
 // The ten places of a report.
@@ -61,7 +67,7 @@ fn put_report(
     day: Day,
     settled: Runs,
 )
-    requires { ⌜ 10 ≤ length (now report) ⌝ }
+    requires { ⌜ reportPlaces ≤ length (now report) ⌝ }
     ensures { λ _. ⌜ now (report .exit) ≡ over (listed answered offset quarters used held (refused .count) (refused .first) (day .0) settled) (now (report .entry)) ⌝ }
 {
     let first = flag_number(settled.first);
@@ -99,7 +105,7 @@ pub extern "C" fn emorizugu_replay(
     ensures { λ r. ⌜ Reported (now (file .entry)) (storesOf (now (values .entry)) (now (book .entry)) (now (log .entry))) (now (series .entry)) (now (answers .entry)) (placesOf (now (report .entry)) (now (points .entry)) (now (versions .entry))) r (storesOf (now (values .exit)) (now (book .exit)) (now (log .exit))) (now (series .exit)) (now (answers .exit)) (placesOf (now (report .exit)) (now (points .exit)) (now (versions .exit))) ⌝ }
 {
     if !all_fit(report.len(), points.len(), versions.len()) {
-        return 2;
+        return TOO_SHORT;
     }
     let run = replay::replay(file, values, book, log, series, answers);
     let ending = run.ending;

@@ -1,9 +1,11 @@
 // The desk's points and versions as numbers, and how many of its answers are refusals.
+use crate::Refusals;
 use amend::copies::copy_row;
 use checks::surveys::survey;
-use crate::Refusals;
 use quantity::PointNo;
 use quantity::Version;
+use quantity::limits::POINTS;
+use quantity::limits::VERSIONS;
 use state::PointRecord;
 use state::PointState;
 use state::VersionRecord;
@@ -14,9 +16,20 @@ ghost use mathlib.Core.Path.{_≡_};
 ghost use Prim.Native.Nat.{suc, _+_, _≤_, _<_};
 ghost use lib.ListN.{length, take};
 ghost use Rattle.book.specs.Row.{splice};
+ghost use Rattle.quantity.specs.Limits.{points};
 ghost use Rattle.replay.specs.Replay.{over};
 ghost use Rattle.state.specs.Selection.{versionOf, selected};
-ghost use Rattle.host.specs.Table.{pointPlaces, pointTable, versionPlaces, versionTable, refusals, firstRefused};
+ghost use Rattle.host.specs.Table.{pointsPlaces, versionsPlaces, pointPlaces, pointTable, versionPlaces, versionTable, refusals, firstRefused};
+
+// How many numbers a point has.
+const POINT_NUMBERS: usize = 7;
+
+// How many numbers a version has.
+const VERSION_NUMBERS: usize = 4;
+
+pub const POINT_PLACES: usize = POINT_NUMBERS * POINTS as usize;
+
+pub const VERSION_PLACES: usize = VERSION_NUMBERS * VERSIONS as usize;
 
 // A row into the places from `at` on.
 pub fn put_row(out: &mut [u64], at: usize, row: &[u64])
@@ -27,7 +40,7 @@ pub fn put_row(out: &mut [u64], at: usize, row: &[u64])
     copy_row(row, 0, row.len(), &mut out[at..end]);
 }
 
-fn point_places(state: PointState, first: Version, second: Version) -> [u64; 7]
+fn point_places(state: PointState, first: Version, second: Version) -> [u64; POINT_NUMBERS]
     ensures { λ r. ⌜ r ≡ pointPlaces state (first .0) (second .0) ⌝ }
 {
     match state {
@@ -50,41 +63,42 @@ fn point_places(state: PointState, first: Version, second: Version) -> [u64; 7]
 }
 
 // A point's row, with what both runs select for it.
-fn point_row(state: PointState, versions: [VersionRecord; 512], count: u64, i: u64) -> [u64; 7]
-    requires { ⌜ i < 256 ⌝ }
+fn point_row(
+    state: PointState,
+    versions: [VersionRecord; VERSIONS as usize],
+    count: u64,
+    i: u64,
+) -> [u64; POINT_NUMBERS]
+    requires { ⌜ i < points ⌝ }
     ensures { λ r. ⌜ r ≡ pointPlaces state (versionOf (selected 1 (suc i) (take count versions))) (versionOf (selected 2 (suc i) (take count versions))) ⌝ }
 {
     let s = survey(versions, count, 0, PointNo(i + 1), Version(0));
     let first = s.first;
     let second = s.second;
-    point_places(
-        state,
-        version_of(first),
-        version_of(or_else(second, first)),
-    )
+    point_places(state, version_of(first), version_of(or_else(second, first)))
 }
 
 // Every point, seven numbers each.
 pub fn put_points(
     out: &mut [u64],
-    points: [PointRecord; 256],
-    versions: [VersionRecord; 512],
+    points: [PointRecord; POINTS as usize],
+    versions: [VersionRecord; VERSIONS as usize],
     count: u64,
 )
-    requires { ⌜ 1792 ≤ length (now out) ⌝ }
+    requires { ⌜ pointsPlaces ≤ length (now out) ⌝ }
     ensures { λ _. ⌜ now (out .exit) ≡ over (pointTable points (take count versions)) (now (out .entry)) ⌝ }
 {
     let mut i = 0;
-    while i < 256 {
+    while i < POINTS as usize {
         let point = points[i];
         let state = point.state;
         let row = point_row(state, versions, count, i as u64);
-        put_row(out, 7 * i, &row);
+        put_row(out, POINT_NUMBERS * i, &row);
         i += 1;
     }
 }
 
-fn version_places(v: VersionRecord) -> [u64; 4]
+fn version_places(v: VersionRecord) -> [u64; VERSION_NUMBERS]
     ensures { λ r. ⌜ r ≡ versionPlaces v ⌝ }
 {
     let status = v.status;
@@ -96,17 +110,21 @@ fn version_places(v: VersionRecord) -> [u64; 4]
     ]
 }
 
-// Every version held, four numbers each. A count above 512 means the whole table.
-pub fn put_versions(out: &mut [u64], versions: [VersionRecord; 512], count: u64)
-    requires { ⌜ 2048 ≤ length (now out) ⌝ }
+// Every version held, four numbers each. A count past the table's end means the whole table.
+pub fn put_versions(out: &mut [u64], versions: [VersionRecord; VERSIONS as usize], count: u64)
+    requires { ⌜ versionsPlaces ≤ length (now out) ⌝ }
     ensures { λ _. ⌜ now (out .exit) ≡ over (versionTable (take count versions)) (now (out .entry)) ⌝ }
 {
-    let n = if count < 512 { count as usize } else { 512 };
+    let n = if count < VERSIONS {
+        count as usize
+    } else {
+        VERSIONS as usize
+    };
     let mut i = 0;
     while i < n {
         let version = versions[i];
         let row = version_places(version);
-        put_row(out, 4 * i, &row);
+        put_row(out, VERSION_NUMBERS * i, &row);
         i += 1;
     }
 }
