@@ -8,8 +8,6 @@ fn main() {
     let folder = env::var("EMORIZUGU_LIBS").unwrap_or_else(|_| usual.to_string());
     println!("cargo:rerun-if-env-changed=EMORIZUGU_LIBS");
     println!("cargo:rustc-link-search=native={folder}");
-    for name in ["host", "drive"] {
-        println!("cargo:rerun-if-changed={folder}/lib{name}.a");
-        println!("cargo:rustc-link-lib=static={name}");
-    }
+    println!("cargo:rerun-if-changed={folder}/libhost.a");
+    println!("cargo:rustc-link-lib=static=host");
 }

@@ -43,7 +43,11 @@ pub struct Wanted {
 /// The commands by name, each with the options that it takes.
 pub const COMMANDS: [(&str, Command, &[&str]); 8] = [
     ("run", Command::Run, &[]),
-    ("figures", Command::Figures, &["--csv", "--json", "--run", "--group", "--all"]),
+    (
+        "figures",
+        Command::Figures,
+        &["--csv", "--json", "--run", "--group", "--all"],
+    ),
     ("log", Command::Log, &["--csv", "--json", "--run"]),
     ("points", Command::Points, &["--csv", "--json"]),
     ("page", Command::Page, &["-o"]),
@@ -63,7 +67,9 @@ fn number(option: &str, word: Option<String>, most: u64) -> Result<Option<u64>, 
     let word = word.unwrap_or_default();
     match word.parse() {
         Ok(number) if (1..=most).contains(&number) => Ok(Some(number)),
-        _ => Err(wrong(format!("{option} takes a number from 1 to {most}: '{word}'"))),
+        _ => Err(wrong(format!(
+            "{option} takes a number from 1 to {most}: '{word}'"
+        ))),
     }
 }
 
@@ -132,7 +138,9 @@ fn rest(
     let mut bare = false;
     while let Some(word) = words.next() {
         let (option, value) = match word.split_once('=') {
-            Some((option, value)) if word.starts_with("--") && !bare => (option.to_string(), Some(value.to_string())),
+            Some((option, value)) if word.starts_with("--") && !bare => {
+                (option.to_string(), Some(value.to_string()))
+            }
             _ => (word.clone(), None),
         };
         if bare || word == "-" || !word.starts_with('-') {
@@ -145,7 +153,9 @@ fn rest(
                 wanted.command = Command::HelpOn(name);
                 return Ok(());
             }
-            known if !options.contains(&known) => return Err(wrong(format!("desk {name} has no option {option}"))),
+            known if !options.contains(&known) => {
+                return Err(wrong(format!("desk {name} has no option {option}")))
+            }
             "--csv" => wanted.form = Form::Csv,
             "--json" => wanted.form = Form::Json,
             "--all" => wanted.all = true,
@@ -161,7 +171,9 @@ fn rest(
         return Ok(());
     }
     if wanted.words.len() != 1 {
-        return Err(wrong(format!("desk {name} takes one file; `-` is standard input")));
+        return Err(wrong(format!(
+            "desk {name} takes one file; `-` is standard input"
+        )));
     }
     wanted.file = wanted.words.remove(0);
     Ok(())

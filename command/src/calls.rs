@@ -80,7 +80,13 @@ pub const KINDS: [Kind; 7] = [
 ];
 
 /// Kinds of series 1 to 5.
-pub const SERIES: [&str; 5] = ["exchange", "group-sum", "area-sum", "operator-sum", "delta-transfer"];
+pub const SERIES: [&str; 5] = [
+    "exchange",
+    "group-sum",
+    "area-sum",
+    "operator-sum",
+    "delta-transfer",
+];
 
 /// Statuses 1 to 5.
 pub const STATUSES: [&str; 5] = [
@@ -200,7 +206,10 @@ impl Call {
             ("area", 0) => "T".to_string(),
             (_, number) => number.to_string(),
         };
-        let words: String = about.iter().map(|name| format!(" {name} {}", shown(name))).collect();
+        let words: String = about
+            .iter()
+            .map(|name| format!(" {name} {}", shown(name)))
+            .collect();
         format!("{}{words}", self.form().name)
     }
 }

@@ -29,7 +29,9 @@ fn grouped(word: &str) -> bool {
     let digits = word.strip_prefix('-').unwrap_or(word);
     let parts: Vec<&str> = digits.split(['.', ',', '\'', '_', '\u{a0}']).collect();
     let whole = |part: &&str| !part.is_empty() && part.bytes().all(|byte| byte.is_ascii_digit());
-    parts.len() > 1 && parts.iter().all(|part| whole(&part)) && parts[1..].iter().all(|part| part.len() == 3)
+    parts.len() > 1
+        && parts.iter().all(|part| whole(&part))
+        && parts[1..].iter().all(|part| part.len() == 3)
 }
 
 /// The whole number of a word of digits, perhaps with a minus; None where it is none.
@@ -50,9 +52,15 @@ fn whole(word: &str) -> Option<Result<i128, ()>> {
 fn no_number(name: &str, word: &str) -> String {
     let digits = word.strip_prefix('-').unwrap_or(word);
     if grouped(word) {
-        return format!("{name} has its digits in groups: {}; write them together", quoted(word));
+        return format!(
+            "{name} has its digits in groups: {}; write them together",
+            quoted(word)
+        );
     }
-    if digits.len() > 1 && digits.starts_with('0') && digits.bytes().all(|byte| byte.is_ascii_digit()) {
+    if digits.len() > 1
+        && digits.starts_with('0')
+        && digits.bytes().all(|byte| byte.is_ascii_digit())
+    {
         return format!(
             "{name} has zeros in front: {}; write a number without them, and its digits together",
             quoted(word)
@@ -61,7 +69,12 @@ fn no_number(name: &str, word: &str) -> String {
     format!("{name} is no whole number: {}", quoted(word))
 }
 
-fn within(name: &str, word: &str, number: Result<i128, ()>, range: (i128, i128)) -> Result<i128, String> {
+fn within(
+    name: &str,
+    word: &str,
+    number: Result<i128, ()>,
+    range: (i128, i128),
+) -> Result<i128, String> {
     match number {
         Ok(number) if range.0 <= number && number <= range.1 => Ok(number),
         _ => Err(format!(
@@ -80,7 +93,9 @@ pub fn field(name: &str, word: &str) -> Result<u64, String> {
     }
     let Some(number) = whole(word) else {
         let names = names_of(name);
-        if names.is_empty() || word.starts_with(|first: char| first.is_ascii_digit() || first == '-') {
+        if names.is_empty()
+            || word.starts_with(|first: char| first.is_ascii_digit() || first == '-')
+        {
             return Err(no_number(name, word));
         }
         return Err(format!(
@@ -100,7 +115,8 @@ fn energy(word: &str, unit: Unit) -> Result<u64, String> {
         return Ok(within(name, word, number, ENERGIES)? as i64 as u64);
     }
     let (front, decimals) = word.split_once('.').unwrap_or((word, "000"));
-    let fits = (1..=3).contains(&decimals.len()) && decimals.bytes().all(|byte| byte.is_ascii_digit());
+    let fits =
+        (1..=3).contains(&decimals.len()) && decimals.bytes().all(|byte| byte.is_ascii_digit());
     let joined = format!("{front}{decimals:0<3}");
     match whole(front) {
         Some(Ok(_)) if fits => {
@@ -117,7 +133,9 @@ fn energy(word: &str, unit: Unit) -> Result<u64, String> {
 
 fn few(count: usize) -> Result<(), String> {
     if count > MOST_QUARTERS {
-        return Err(format!("{count} energies, and a file carries at most {MOST_QUARTERS}"));
+        return Err(format!(
+            "{count} energies, and a file carries at most {MOST_QUARTERS}"
+        ));
     }
     Ok(())
 }
@@ -132,16 +150,22 @@ pub fn energies(word: &str, unit: Unit, folder: &Path) -> Result<Vec<u64>, Strin
     } else {
         word.split(',').collect()
     };
-    let series: Vec<u64> = words.iter().map(|word| energy(word, unit)).collect::<Result<_, _>>()?;
+    let series: Vec<u64> = words
+        .iter()
+        .map(|word| energy(word, unit))
+        .collect::<Result<_, _>>()?;
     few(series.len())?;
     Ok(series)
 }
 
 /// The lines of a file of numbers.
 fn lines(name: &str, folder: &Path) -> Result<Vec<String>, String> {
-    let bytes = fs::read(folder.join(name)).map_err(|error| format!("{name}: {}", output::words(&error)))?;
+    let bytes = fs::read(folder.join(name))
+        .map_err(|error| format!("{name}: {}", output::words(&error)))?;
     if bytes.starts_with(b"\xEF\xBB\xBF") {
-        return Err(format!("{name}: begins with a byte order mark; save it as UTF-8 without one"));
+        return Err(format!(
+            "{name}: begins with a byte order mark; save it as UTF-8 without one"
+        ));
     }
     let text = String::from_utf8(bytes).map_err(|_| format!("{name}: is no text in UTF-8"))?;
     if let Some(at) = text.split('\n').position(|line| line.contains('\r')) {
@@ -161,7 +185,9 @@ fn lines(name: &str, folder: &Path) -> Result<Vec<String>, String> {
 /// A cell without the quotes around it.
 fn cell(word: &str) -> &str {
     let word = word.trim_matches([' ', '\t']);
-    word.strip_prefix('"').and_then(|word| word.strip_suffix('"')).unwrap_or(word)
+    word.strip_prefix('"')
+        .and_then(|word| word.strip_suffix('"'))
+        .unwrap_or(word)
 }
 
 fn from_file(source: &str, unit: Unit, folder: &Path) -> Result<Vec<u64>, String> {
@@ -171,7 +197,8 @@ fn from_file(source: &str, unit: Unit, folder: &Path) -> Result<Vec<u64>, String
     };
     let lines = lines(name, folder)?;
     let mut numbered = lines.iter().enumerate();
-    let mut pick: Box<dyn Fn(&str) -> Option<String>> = Box::new(|line| Some(cell(line).to_string()));
+    let mut pick: Box<dyn Fn(&str) -> Option<String>> =
+        Box::new(|line| Some(cell(line).to_string()));
     if let Some(column) = column {
         let header = numbered.next().map(|(_, line)| line.as_str()).unwrap_or("");
         let mark = if header.contains(';') { ';' } else { ',' };
@@ -187,8 +214,11 @@ fn from_file(source: &str, unit: Unit, folder: &Path) -> Result<Vec<u64>, String
     }
     let mut series = Vec::new();
     for (at, line) in numbered {
-        let word = pick(line).ok_or_else(|| format!("{name}: line {}: ends before the column", at + 1))?;
-        series.push(energy(&word, unit).map_err(|wrong| format!("{name}: line {}: {wrong}", at + 1))?);
+        let word =
+            pick(line).ok_or_else(|| format!("{name}: line {}: ends before the column", at + 1))?;
+        series.push(
+            energy(&word, unit).map_err(|wrong| format!("{name}: line {}: {wrong}", at + 1))?,
+        );
     }
     few(series.len()).map_err(|wrong| format!("{name}: {wrong}"))?;
     Ok(series)

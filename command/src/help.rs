@@ -104,7 +104,11 @@ or the output could not be written.
 const INTENT: &str = "a month of a settlement desk: calls in, figures of the balance groups out";
 
 pub fn version() -> String {
-    format!("desk {}, library {}\n", env!("CARGO_PKG_VERSION"), library::version())
+    format!(
+        "desk {}, library {}\n",
+        env!("CARGO_PKG_VERSION"),
+        library::version()
+    )
 }
 
 /// `desk --help`.
@@ -127,7 +131,10 @@ pub fn on(name: &str) -> String {
             help.usage, help.short, help.body, help.example
         )
     };
-    HELPS.iter().find(|help| help.name == name).map_or_else(overview, of)
+    HELPS
+        .iter()
+        .find(|help| help.name == name)
+        .map_or_else(overview, of)
 }
 
 /// A text for the man page.

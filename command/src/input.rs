@@ -26,7 +26,9 @@ pub fn read(name: &str) -> Result<Vec<u8>, Failure> {
         return io::stdin()
             .read_to_end(&mut bytes)
             .map(|_| bytes)
-            .map_err(|error| Failure::new(format!("standard input cannot be read: {}", words(&error))));
+            .map_err(|error| {
+                Failure::new(format!("standard input cannot be read: {}", words(&error)))
+            });
     }
     fs::read(name).map_err(|error| Failure::new(format!("{name}: {}", words(&error))))
 }
@@ -72,7 +74,10 @@ pub fn packed(name: &str, bytes: &[u8]) -> Result<Month, Failure> {
             calls,
         }),
         Err(complaints) => {
-            let lines = complaints.iter().map(|complaint| format!("{shown}: {complaint}")).collect();
+            let lines = complaints
+                .iter()
+                .map(|complaint| format!("{shown}: {complaint}"))
+                .collect();
             Err(Failure {
                 lines,
                 status: crate::NOTHING,
@@ -113,7 +118,9 @@ pub fn month(name: &str) -> Result<Month, Failure> {
     if is_text(&bytes) {
         let month = packed(name, &bytes)?;
         if month.calls.is_empty() {
-            return Err(Failure::new(format!("{shown}: has comments alone, and no calls")));
+            return Err(Failure::new(format!(
+                "{shown}: has comments alone, and no calls"
+            )));
         }
         return Ok(month);
     }

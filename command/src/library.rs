@@ -5,16 +5,16 @@ use crate::calls::{self, MOST_FIELDS, MOST_QUARTERS};
 /// The most versions that a desk holds, and its points.
 pub const VERSIONS: usize = 512;
 pub const POINTS: usize = 256;
-/// Rows of the book for both runs; groups, and rows of a run.
+/// Rows of the book for both runs, and groups.
 pub const BOOK_ROWS: usize = 162;
 pub const GROUPS: u64 = 64;
-pub const ROWS: u64 = 81;
 
 /// The places of a point: active, since, kind, area, partner, the version of run 1, the version of run 2.
 const POINT_PLACES: usize = 7;
 /// The places of a version: point, version, status, row of values.
 const VERSION_PLACES: usize = 4;
-/// The places of a replay's report.
+/// The places of a replay's report: calls answered, offset, quarter hours, log rows, versions held, calls refused, the
+/// first of them, the day, run 1 settled, run 2 settled.
 const REPORT: usize = 10;
 
 extern "C" {
@@ -33,8 +33,23 @@ extern "C" {
         answers_length: usize,
         report: *mut u64,
         report_length: usize,
+        points: *mut u64,
+        points_length: usize,
+        versions: *mut u64,
+        versions_length: usize,
     ) -> u64;
-    fn drive_read(
+    fn emorizugu_figure(
+        book: *const u8,
+        length: usize,
+        quarters: u64,
+        run: u64,
+        group: u64,
+        quarter: u64,
+    ) -> u64;
+    fn emorizugu_sum(book: *const u64, length: usize, quarters: u64, run: u64, row: u64) -> u64;
+    fn emorizugu_difference(book: *const u64, length: usize, quarters: u64, row: u64) -> u64;
+    fn emorizugu_version() -> u64;
+    fn emorizugu_read(
         file: *const u8,
         length: usize,
         start: u64,
@@ -43,7 +58,7 @@ extern "C" {
         call: *mut u64,
         call_length: usize,
     ) -> u64;
-    fn drive_write(
+    fn emorizugu_write(
         kind: u64,
         fields: *const u64,
         fields_length: usize,
@@ -110,7 +125,7 @@ impl<'a> Reader<'a> {
         let mut call = [0; 3 + MOST_FIELDS];
         let start = self.at;
         let answer = unsafe {
-            drive_read(
+            emorizugu_read(
                 self.file.as_ptr(),
                 self.file.len(),
                 start,
@@ -149,7 +164,7 @@ pub fn write(kind: u64, fields: &[u64], energies: &[u64], file: &mut Vec<u8>) ->
     file.resize(start + 9 * (2 + MOST_FIELDS + energies.len()), 0);
     let mut size = [0];
     let answer = unsafe {
-        drive_write(
+        emorizugu_write(
             kind,
             fields.as_ptr(),
             fields.len(),
@@ -225,6 +240,8 @@ pub fn replay(file: &[u8], calls: usize) -> Replay {
     let mut series = vec![0; MOST_QUARTERS];
     let mut answers = vec![0; calls];
     let mut report = [0; REPORT];
+    let mut points = vec![0; POINT_PLACES * POINTS];
+    let mut versions = vec![0; VERSION_PLACES * VERSIONS];
     let ending = unsafe {
         emorizugu_replay(
             file.as_ptr(),
@@ -241,68 +258,116 @@ pub fn replay(file: &[u8], calls: usize) -> Replay {
             answers.len(),
             report.as_mut_ptr(),
             report.len(),
+            points.as_mut_ptr(),
+            points.len(),
+            versions.as_mut_ptr(),
+            versions.len(),
         )
     };
-    let [answered, offset, quarters, logged, held, ..] = report;
-    let (points, versions, day, settled) = stub_tables(file, &answers, &log[..4 * logged as usize], held);
+    let [answered, offset, quarters, logged, held, refused, _, day, first, second] = report;
     answers.truncate(answered as usize);
+    log.truncate(4 * logged as usize);
+    versions.truncate(VERSION_PLACES * held as usize);
+    book.truncate(BOOK_ROWS * quarters as usize);
     Replay {
-        refused: answers.iter().filter(|answer| **answer != 0).count() as u64,
         answers,
         ending,
         offset: offset as usize,
         quarters: quarters as usize,
+        refused,
         day,
-        settled,
-        points,
-        versions,
-        log: log_rows(&log[..4 * logged as usize]),
+        settled: [first == 1, second == 1],
+        points: active(&points),
+        versions: held_in_order(&versions),
+        log: log
+            .chunks_exact(4)
+            .map(|row| LogRow {
+                day: row[0],
+                point: row[1],
+                run: row[2],
+                version: row[3],
+            })
+            .collect(),
         book,
     }
 }
 
-fn log_rows(log: &[u64]) -> Vec<LogRow> {
-    log.chunks_exact(4)
-        .map(|row| LogRow {
-            day: row[0],
-            point: row[1],
-            run: row[2],
-            version: row[3],
-        })
+fn active(points: &[u64]) -> Vec<Point> {
+    let point = |(at, row): (usize, &[u64])| Point {
+        number: at as u64 + 1,
+        since: row[1],
+        kind: row[2],
+        area: row[3],
+        partner: row[4],
+        selected: [row[5], row[6]],
+    };
+    points
+        .chunks_exact(POINT_PLACES)
+        .enumerate()
+        .filter(|(_, row)| row[0] == 1)
+        .map(point)
         .collect()
 }
 
+/// The versions by point, then by version; no two are equal in both.
+fn held_in_order(versions: &[u64]) -> Vec<Version> {
+    let mut held: Vec<Version> = versions
+        .chunks_exact(VERSION_PLACES)
+        .map(|row| Version {
+            point: row[0],
+            version: row[1],
+            status: row[2],
+        })
+        .collect();
+    held.sort_by_key(|version| (version.point, version.version));
+    held
+}
+
 impl Replay {
-    /// A row of the book: groups 1 to 64 are rows 0 to 63, delta T is 64, areas 1 to 16 are 65 to 80.
-    pub fn row(&self, run: u64, row: u64) -> impl ExactSizeIterator<Item = i64> + Clone + '_ {
-        let start = stub_row_start(self.quarters, run, row);
-        self.book[start..start + self.quarters].iter().map(|word| *word as i64)
+    /// A group's figure in a quarter hour, both counted from 1.
+    pub fn figure(&self, run: u64, group: u64, quarter: usize) -> i64 {
+        // A word's bytes stand lowest first on the machines that the library is built for.
+        const { assert!(cfg!(target_endian = "little")) };
+        let (book, quarters) = (&self.book, self.quarters as u64);
+        unsafe {
+            emorizugu_figure(
+                book.as_ptr().cast(),
+                8 * book.len(),
+                quarters,
+                run,
+                group,
+                quarter as u64,
+            ) as i64
+        }
     }
 
-    /// The sum of a row over the month.
+    /// The sum of a row over the month: groups 1 to 64 are rows 0 to 63, delta T is 64, areas 1 to 16 are 65 to 80.
     pub fn sum(&self, run: u64, row: u64) -> i64 {
-        self.row(run, row).fold(0, i64::wrapping_add)
+        unsafe {
+            emorizugu_sum(
+                self.book.as_ptr(),
+                self.book.len(),
+                self.quarters as u64,
+                run,
+                row,
+            ) as i64
+        }
     }
 
-    /// Run 2's sum less run 1's.
+    /// Run 2's sum of a row less run 1's.
     pub fn difference(&self, row: u64) -> i64 {
-        self.sum(2, row).wrapping_sub(self.sum(1, row))
+        unsafe {
+            emorizugu_difference(
+                self.book.as_ptr(),
+                self.book.len(),
+                self.quarters as u64,
+                row,
+            ) as i64
+        }
     }
-}
-
-// Stubs for entries that the library has not yet.
-
-fn stub_row_start(quarters: usize, run: u64, row: u64) -> usize {
-    ((run - 1) * ROWS + row) as usize * quarters
-}
-
-#[allow(clippy::type_complexity)]
-fn stub_tables(_file: &[u8], _answers: &[u64], _log: &[u64], _held: u64) -> (Vec<Point>, Vec<Version>, u64, [bool; 2]) {
-    let _ = (POINTS, POINT_PLACES, VERSION_PLACES);
-    (Vec::new(), Vec::new(), 0, [false; 2])
 }
 
 /// The library's version.
 pub fn version() -> u64 {
-    1
+    unsafe { emorizugu_version() }
 }

@@ -32,12 +32,16 @@ pub fn figures(wanted: &Wanted) -> Result<i32, Failure> {
     let mut sheet = Sheet::new(wanted.form, FIGURES);
     let groups = || (1..=GROUPS).filter(|group| wanted.group.is_none_or(|asked| asked == *group));
     for run in (1..=2).filter(|run| wanted.run.is_none_or(|asked| asked == *run)) {
-        let mut rows: Vec<_> = groups().map(|group| (group, ran.replay.row(run, group - 1))).collect();
         for quarter in 1..=ran.replay.quarters {
-            for (group, row) in &mut rows {
-                let figure = row.next().unwrap_or(0);
+            for group in groups() {
+                let figure = ran.replay.figure(run, group, quarter);
                 if figure != 0 || wanted.all {
-                    sheet.row(&[number(run), number(quarter as u64), number(*group), Cell::Number(figure)]);
+                    sheet.row(&[
+                        number(run),
+                        number(quarter as u64),
+                        number(group),
+                        Cell::Number(figure),
+                    ]);
                 }
             }
         }
@@ -96,7 +100,9 @@ fn point_row(sheet: &mut Sheet, point: &Point, version: Option<&Version>) {
         number(point.partner),
         number(point.since),
         version.map_or(Cell::Nothing, |version| number(version.version)),
-        version.map_or(Cell::Nothing, |version| Cell::Word(name_in(&STATUSES, version.status))),
+        version.map_or(Cell::Nothing, |version| {
+            Cell::Word(name_in(&STATUSES, version.status))
+        }),
         version.map_or(Cell::Nothing, |version| counts(0, version)),
         version.map_or(Cell::Nothing, |version| counts(1, version)),
     ]);

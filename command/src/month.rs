@@ -41,7 +41,11 @@ impl Ran {
     }
 
     pub fn status(&self) -> i32 {
-        match (self.replay.ending, self.replay.answers.len(), self.replay.refused) {
+        match (
+            self.replay.ending,
+            self.replay.answers.len(),
+            self.replay.refused,
+        ) {
             (0, _, 0) => ACCEPTED,
             (0, _, _) => REFUSED,
             (_, 0, _) => NOTHING,
@@ -51,7 +55,11 @@ impl Ran {
 
     /// A word on standard error where a list comes from a month that was not accepted whole.
     pub fn warn(&self) {
-        let (name, calls, refused) = (&self.month.name, self.replay.answers.len(), self.replay.refused);
+        let (name, calls, refused) = (
+            &self.month.name,
+            self.replay.answers.len(),
+            self.replay.refused,
+        );
         if refused > 0 {
             output::warn(&format!(
                 "{name}: {refused} of {calls} calls were refused; `desk run` says which and why"

@@ -23,7 +23,11 @@ impl Failure {
 
     /// Says it on standard error. Where that cannot be written there is nobody left to tell.
     pub fn tell(&self) {
-        let text: String = self.lines.iter().map(|line| format!("desk: {line}\n")).collect();
+        let text: String = self
+            .lines
+            .iter()
+            .map(|line| format!("desk: {line}\n"))
+            .collect();
         let _ = io::stderr().write_all(text.as_bytes());
     }
 }
@@ -43,7 +47,8 @@ pub fn words(error: &io::Error) -> String {
 }
 
 fn is_open(stream: u32) -> bool {
-    fs::symlink_metadata(format!("/proc/self/fd/{stream}")).is_ok() || !Path::new("/proc/self/fd").exists()
+    fs::symlink_metadata(format!("/proc/self/fd/{stream}")).is_ok()
+        || !Path::new("/proc/self/fd").exists()
 }
 
 /// Each standard stream is open: a file that is opened later must not take the place of one.
@@ -65,7 +70,12 @@ pub fn write(bytes: &[u8]) -> Result<(), Failure> {
     let mut out = io::stdout().lock();
     out.write_all(bytes)
         .and_then(|()| out.flush())
-        .map_err(|error| Failure::new(format!("standard output cannot be written: {}", words(&error))))
+        .map_err(|error| {
+            Failure::new(format!(
+                "standard output cannot be written: {}",
+                words(&error)
+            ))
+        })
 }
 
 /// Whether standard output is a terminal that shows colours.
@@ -82,7 +92,8 @@ pub fn warn(line: &str) {
 
 /// The bytes to a file, whole or not at all: to a neighbour first, which then takes its name.
 pub fn write_file(name: &str, bytes: &[u8]) -> Result<(), Failure> {
-    let refused = |error: io::Error| Failure::new(format!("{name} cannot be written: {}", words(&error)));
+    let refused =
+        |error: io::Error| Failure::new(format!("{name} cannot be written: {}", words(&error)));
     let path = Path::new(name);
     if path.exists() && !path.is_file() {
         // A device or a named pipe has no neighbour.
@@ -98,4 +109,12 @@ pub fn write_file(name: &str, bytes: &[u8]) -> Result<(), Failure> {
         let _ = fs::remove_file(&neighbour);
         refused(error)
     })
+}
+
+/// The bytes to the file that is asked for, or to standard output.
+pub fn deliver(to: &Option<String>, bytes: &[u8]) -> Result<(), Failure> {
+    match to {
+        Some(name) => write_file(name, bytes),
+        None => write(bytes),
+    }
 }

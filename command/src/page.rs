@@ -1,6 +1,292 @@
-//! stub
+//! `desk page`: the month as one page for a browser, with no outside parts.
+
 use crate::arguments::Wanted;
-use crate::output::Failure;
-pub fn write(_wanted: &Wanted) -> Result<i32, Failure> {
-    Err(Failure::new("no page yet"))
+use crate::calls::{name_in, OPEN, SERIES, STATUSES};
+use crate::library::{Point, Replay, Version, GROUPS};
+use crate::month::{self, Ran};
+use crate::output::{self, Failure};
+use crate::refusals;
+use crate::sheet::json_word;
+use crate::summary::{changes, grouped, headline};
+use crate::ACCEPTED;
+
+const PAGE: &str = include_str!("page.html");
+
+/// Text between tags.
+fn escaped(text: &str) -> String {
+    text.replace('&', "&amp;")
+        .replace('<', "&lt;")
+        .replace('>', "&gt;")
+        .replace('"', "&quot;")
+}
+
+/// A cell with a number, by which its column is sorted.
+fn number(number: i64) -> String {
+    format!("<td data-n=\"{number}\">{}</td>", grouped(number))
+}
+
+fn word(word: &str) -> String {
+    format!("<td class=\"word\">{}</td>", escaped(word))
+}
+
+/// The cells of a row's sums and their difference.
+fn sums(replay: &Replay, row: u64) -> Option<String> {
+    let (first, second) = (replay.sum(1, row), replay.sum(2, row));
+    let cells = number(first) + &number(second) + &number(replay.difference(row));
+    (first != 0 || second != 0).then_some(cells)
+}
+
+/// The rows of the deltas: T, then the areas.
+fn deltas(replay: &Replay) -> String {
+    let name = |area: u64| {
+        if area == 0 {
+            "T".to_string()
+        } else {
+            format!("area {area}")
+        }
+    };
+    let row = |area: u64| {
+        let cells = sums(replay, GROUPS + area)?;
+        Some(format!(
+            "<tr><td class=\"word\" data-n=\"{area}\">{}</td>{cells}</tr>\n",
+            name(area)
+        ))
+    };
+    (0..=16).filter_map(row).collect()
+}
+
+fn version_row(point: &Point, version: Option<&Version>) -> String {
+    let [number_of, area, partner, since] =
+        [point.number, point.area, point.partner, point.since].map(|n| number(n as i64));
+    let kind = word(name_in(&SERIES, point.kind));
+    let counts = |run: usize, version: &Version| {
+        word(if point.selected[run] == version.version {
+            "yes"
+        } else {
+            "no"
+        })
+    };
+    let told = version.map_or(
+        "<td></td><td></td><td></td><td></td>".to_string(),
+        |version| {
+            let status = word(name_in(&STATUSES, version.status));
+            let n = version.version;
+            format!(
+                "<td data-n=\"{n}\">{n}</td>{status}{}{}",
+                counts(0, version),
+                counts(1, version)
+            )
+        },
+    );
+    format!("<tr>{number_of}{kind}{area}{partner}{since}{told}</tr>\n")
+}
+
+fn points(replay: &Replay) -> String {
+    let of = |point: &Point| -> String {
+        let versions: Vec<&Version> = replay
+            .versions
+            .iter()
+            .filter(|version| version.point == point.number)
+            .collect();
+        if versions.is_empty() {
+            return version_row(point, None);
+        }
+        versions
+            .iter()
+            .map(|version| version_row(point, Some(version)))
+            .collect()
+    };
+    replay.points.iter().map(of).collect()
+}
+
+fn log(replay: &Replay) -> String {
+    let cells = |(at, row): (usize, &crate::library::LogRow)| {
+        let cells: String = [at as u64 + 1, row.day, row.point, row.run]
+            .iter()
+            .map(|n| number(*n as i64))
+            .collect();
+        format!("<tr>{cells}<td data-n=\"{0}\">{0}</td></tr>\n", row.version)
+    };
+    replay.log.iter().enumerate().map(cells).collect()
+}
+
+fn refused(ran: &Ran) -> String {
+    let refusals = refusals::of(ran);
+    if refusals.is_empty() {
+        return String::new();
+    }
+    let item = |refusal: &refusals::Refusal| {
+        let mend = format!(
+            "<br><span class=\"faint\">to mend it: {}</span>",
+            escaped(&refusal.mend)
+        );
+        format!("<li>{}{mend}</li>\n", escaped(&refusal.line()))
+    };
+    let first: String = refusals::sources(&refusals)
+        .iter()
+        .map(|(call, times)| {
+            format!(
+                "<p>{times} of these come from {}: {}; look there first.</p>",
+                call.place.short(),
+                call.title()
+            )
+        })
+        .collect();
+    let items: String = refusals.iter().map(item).collect();
+    format!("<h2 class=\"bad\">Refused calls</h2>{first}<div class=\"scroll\"><ol class=\"calls\" id=\"refused\">\n{items}</ol></div>")
+}
+
+fn changed(replay: &Replay) -> String {
+    let changes = changes(&replay.log);
+    if changes.is_empty() {
+        return String::new();
+    }
+    let items: String = changes
+        .iter()
+        .map(|change| format!("<li>{}</li>\n", escaped(&change.line())))
+        .collect();
+    format!("<h2>Selections that changed</h2><div class=\"scroll\"><ol class=\"calls\" id=\"changed\">\n{items}</ol></div>")
+}
+
+/// Bytes in letters, six bits each.
+fn base64(bytes: &[u8]) -> String {
+    const LETTERS: &[u8; 64] = b"ABCDEFGHIJKLMNOPQRSTUVWXYZabcdefghijklmnopqrstuvwxyz0123456789+/";
+    let mut text = String::with_capacity(bytes.len() / 3 * 4 + 4);
+    for part in bytes.chunks(3) {
+        let group = part
+            .iter()
+            .fold(0u32, |group, byte| group << 8 | u32::from(*byte))
+            << (8 * (3 - part.len()));
+        for at in 0..4 {
+            let letter = LETTERS[(group >> (18 - 6 * at)) as usize & 63];
+            text.push(if at <= part.len() {
+                letter as char
+            } else {
+                '='
+            });
+        }
+    }
+    text
+}
+
+/// Figures in bytes, for the page's script: 2v or -2v - 1, seven bits a byte, lowest first.
+fn packed(figures: &[i64]) -> Vec<u8> {
+    let mut bytes = Vec::with_capacity(4 * figures.len());
+    for figure in figures {
+        let mut left = (figure << 1 ^ figure >> 63) as u64;
+        while left >= 128 {
+            bytes.push(left as u8 | 128);
+            left >>= 7;
+        }
+        bytes.push(left as u8);
+    }
+    bytes
+}
+
+/// The groups that have a figure other than 0, with their rows of the table and their figures for the script.
+fn groups(replay: &Replay) -> (String, String) {
+    let (mut rows, mut data) = (String::new(), Vec::new());
+    for group in 1..=GROUPS {
+        let run = |run: u64| -> Vec<i64> {
+            (1..=replay.quarters)
+                .map(|quarter| replay.figure(run, group, quarter))
+                .collect()
+        };
+        let (first, second) = (run(1), run(2));
+        if first.iter().chain(&second).all(|figure| *figure == 0) {
+            continue;
+        }
+        let cells = number(replay.sum(1, group - 1))
+            + &number(replay.sum(2, group - 1))
+            + &number(replay.difference(group - 1));
+        rows.push_str(&format!(
+            "<tr data-group=\"{group}\">{}{cells}</tr>\n",
+            number(group as i64)
+        ));
+        let other = if first == second {
+            "null".to_string()
+        } else {
+            format!("\"{}\"", base64(&packed(&second)))
+        };
+        data.push(format!(
+            "{{\"group\":{group},\"run_1\":\"{}\",\"run_2\":{other}}}",
+            base64(&packed(&first))
+        ));
+    }
+    (rows, format!("[{}]", data.join(",\n")))
+}
+
+/// The deadlines of the opening that was accepted.
+fn deadlines(ran: &Ran) -> String {
+    let mut calls = ran.month.calls.iter().zip(&ran.replay.answers);
+    let opening = calls
+        .find(|(call, answer)| call.kind == OPEN && **answer == 0)
+        .map(|(call, _)| call);
+    opening.map_or(String::new(), |call| {
+        format!(
+            "{},{},{}",
+            call.field("first"),
+            call.field("clearing"),
+            call.field("correction")
+        )
+    })
+}
+
+/// The whole page.
+pub fn page(ran: &Ran) -> String {
+    let replay = &ran.replay;
+    let (rows, figures) = groups(replay);
+    let log_rows: Vec<String> = replay
+        .log
+        .iter()
+        .map(|row| format!("[{},{},{},{}]", row.day, row.point, row.run, row.version))
+        .collect();
+    let data = format!(
+        "{{\"name\":{},\"quarters\":{},\"day\":{},\"deadlines\":[{}],\"log\":[{}],\"groups\":{figures}}}",
+        json_word(&ran.month.name),
+        replay.quarters,
+        replay.day,
+        deadlines(ran),
+        log_rows.join(",")
+    );
+    let damage = ran.damage().map_or(String::new(), |damage| {
+        format!("<p class=\"bad\">{}</p>", escaped(&damage))
+    });
+    let mut page = PAGE.to_string();
+    for (mark, text) in [
+        (
+            "{{title}}",
+            escaped(&format!("Month of {}", ran.month.name)),
+        ),
+        (
+            "{{mood}}",
+            if ran.status() == ACCEPTED {
+                "good"
+            } else {
+                "bad"
+            }
+            .to_string(),
+        ),
+        ("{{headline}}", escaped(&headline(ran))),
+        ("{{damage}}", damage),
+        ("{{refused}}", refused(ran)),
+        ("{{changes}}", changed(replay)),
+        ("{{groups}}", rows),
+        ("{{deltas}}", deltas(replay)),
+        ("{{points}}", points(replay)),
+        ("{{log}}", log(replay)),
+        ("{{data}}", data),
+    ] {
+        page = page.replace(mark, &text);
+    }
+    page
+}
+
+/// `desk page`.
+pub fn write(wanted: &Wanted) -> Result<i32, Failure> {
+    let ran = month::run(&wanted.file)?;
+    let page = page(&ran);
+    ran.warn();
+    output::deliver(&wanted.to, page.as_bytes())?;
+    Ok(ran.status())
 }

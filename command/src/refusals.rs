@@ -82,7 +82,8 @@ impl<'a> Before<'a> {
 
     fn refuse(&mut self, call: &'a Call, number: u64) {
         let (point, version) = about(call);
-        self.refused.insert((call.kind, point, version), (call, number));
+        self.refused
+            .insert((call.kind, point, version), (call, number));
     }
 
     /// A field of the opening.
@@ -121,7 +122,10 @@ impl<'a> Before<'a> {
                 let run = call.field("run");
                 let by = self.settled.get(&run).copied();
                 (
-                    format!("{} settled run {run}", by.map_or(String::new(), |by| by.place.short())),
+                    format!(
+                        "{} settled run {run}",
+                        by.map_or(String::new(), |by| by.place.short())
+                    ),
                     causes::mend(28),
                     by,
                 )
@@ -168,15 +172,22 @@ impl<'a> Before<'a> {
                 let why = format!("day {day} lies before the desk's day {desk}, which {by} set");
                 (
                     why,
-                    format!("give it day {desk} or later; if day {desk} is a mistake, correct {by}"),
+                    format!(
+                        "give it day {desk} or later; if day {desk} is a mistake, correct {by}"
+                    ),
                     self.day,
                 )
             }
             27 => {
-                let why = format!("day {day} does not lie behind the {name}, day {limit} ({opening})");
+                let why =
+                    format!("day {day} does not lie behind the {name}, day {limit} ({opening})");
                 (
                     why,
-                    format!("settle run {} on day {} or later", call.field("run"), limit + 1),
+                    format!(
+                        "settle run {} on day {} or later",
+                        call.field("run"),
+                        limit + 1
+                    ),
                     None,
                 )
             }
@@ -184,7 +195,9 @@ impl<'a> Before<'a> {
                 let why = format!("day {day} lies behind the {name}, day {limit} ({opening})");
                 (
                     why,
-                    format!("the last day for it is {limit}; correct the day, or leave the call out"),
+                    format!(
+                        "the last day for it is {limit}; correct the day, or leave the call out"
+                    ),
                     None,
                 )
             }
@@ -205,7 +218,11 @@ impl<'a> Before<'a> {
             }
             22 => {
                 let series = |call: &Call| ["kind", "area", "partner"].map(|name| call.field(name));
-                let same = self.active.values().find(|other| series(other) == series(call)).copied()?;
+                let same = self
+                    .active
+                    .values()
+                    .find(|other| series(other) == series(call))
+                    .copied()?;
                 let (other, place) = (same.field("point"), same.place.short());
                 let why = format!("point {other} has the same kind, area and partner ({place})");
                 (
@@ -217,7 +234,11 @@ impl<'a> Before<'a> {
             12 => self.not_active(point),
             23 => {
                 let kept = self.highest(point)?;
-                let why = format!("point {point} has version {} ({})", kept.field("version"), kept.place.short());
+                let why = format!(
+                    "point {point} has version {} ({})",
+                    kept.field("version"),
+                    kept.place.short()
+                );
                 (why, causes::mend(23), Some(kept))
             }
             _ => {
@@ -243,7 +264,9 @@ impl<'a> Before<'a> {
         }
         if let Some((by, number)) = self.refused.get(&(ACTIVATE, point, 0)) {
             let place = by.place.short();
-            let why = format!("point {point} is not active: its activation in {place} was refused, {number}");
+            let why = format!(
+                "point {point} is not active: its activation in {place} was refused, {number}"
+            );
             return (why, format!("correct {place}"), Some(by));
         }
         (
@@ -260,8 +283,15 @@ impl<'a> Before<'a> {
         let next = highest.map_or(1, |call| call.field("version") + 1);
         Some(match number {
             14 => {
-                let why = format!("point {point} has version {version} already ({})", by?.place.short());
-                (why, format!("take version {next} or higher, or leave the call out"), by)
+                let why = format!(
+                    "point {point} has version {version} already ({})",
+                    by?.place.short()
+                );
+                (
+                    why,
+                    format!("take version {next} or higher, or leave the call out"),
+                    by,
+                )
             }
             15 => {
                 let why = format!(
@@ -286,7 +316,11 @@ impl<'a> Before<'a> {
                     by.place.short(),
                     by.field("day")
                 );
-                (why, "nothing: it counts without a notice".to_string(), Some(by))
+                (
+                    why,
+                    "nothing: it counts without a notice".to_string(),
+                    Some(by),
+                )
             }
         })
     }
@@ -298,7 +332,11 @@ impl<'a> Before<'a> {
             return (why, format!("correct {place}"), Some(by));
         }
         let has = match highest {
-            Some(call) => format!("its highest is {}, of {}", call.field("version"), call.place.short()),
+            Some(call) => format!(
+                "its highest is {}, of {}",
+                call.field("version"),
+                call.place.short()
+            ),
             None => "it has no version at all".to_string(),
         };
         (
@@ -313,7 +351,8 @@ impl<'a> Before<'a> {
         if call.kind == ACTIVATE && wrong.is_empty() {
             return (
                 unfit(call),
-                "put kind, area and partner together as README's table of series has them".to_string(),
+                "put kind, area and partner together as README's table of series has them"
+                    .to_string(),
                 None,
             );
         }
@@ -325,7 +364,9 @@ impl<'a> Before<'a> {
                 self.opening_place()
             ));
         }
-        let beyond = energies.iter().position(|energy| energy.unsigned_abs() > MOST_ENERGY);
+        let beyond = energies
+            .iter()
+            .position(|energy| energy.unsigned_abs() > MOST_ENERGY);
         if let Some(at) = beyond.filter(|_| call.kind == SUBMIT) {
             wrong.push(format!(
                 "the energy of quarter hour {}, {}, is beyond {MOST_ENERGY} watt-hours",
@@ -361,9 +402,15 @@ fn range(kind: u64, field: &str) -> (u64, u64) {
 fn ranges(call: &Call) -> Vec<String> {
     let outside = |(name, number): (&&str, &u64)| {
         let (least, most) = range(call.kind, name);
-        (*number < least || *number > most).then(|| format!("{name} {number} is not {least} to {most}"))
+        (*number < least || *number > most)
+            .then(|| format!("{name} {number} is not {least} to {most}"))
     };
-    call.form().fields.iter().zip(&call.fields).filter_map(outside).collect()
+    call.form()
+        .fields
+        .iter()
+        .zip(&call.fields)
+        .filter_map(outside)
+        .collect()
 }
 
 /// Kind, area and partner that do not go together.
@@ -381,7 +428,8 @@ fn unfit(call: &Call) -> String {
 
 fn bad_opening(call: &Call) -> Words<'_> {
     let mut wrong = Vec::new();
-    let [quarters, first, clearing, correction] = ["quarters", "first", "clearing", "correction"].map(|name| call.field(name));
+    let [quarters, first, clearing, correction] =
+        ["quarters", "first", "clearing", "correction"].map(|name| call.field(name));
     if !(1..=2980).contains(&quarters) {
         wrong.push(format!("quarters {quarters} is not 1 to 2980"));
     }
@@ -442,7 +490,10 @@ pub fn of(ran: &Ran) -> Vec<Refusal<'_>> {
 pub fn sources<'a>(refusals: &[Refusal<'a>]) -> Vec<(&'a Call, usize)> {
     let mut sources: Vec<(&Call, usize)> = Vec::new();
     for from in refusals.iter().filter_map(|refusal| refusal.from) {
-        match sources.iter_mut().find(|(call, _)| call.place.number == from.place.number) {
+        match sources
+            .iter_mut()
+            .find(|(call, _)| call.place.number == from.place.number)
+        {
             Some((_, count)) => *count += 1,
             None => sources.push((from, 1)),
         }

@@ -47,7 +47,8 @@ impl Sheet {
         use std::fmt::Write;
         let start = self.text.len();
         if self.form == Form::Json {
-            self.text.push_str(if self.rows == 0 { "\n{" } else { ",\n{" });
+            self.text
+                .push_str(if self.rows == 0 { "\n{" } else { ",\n{" });
         }
         for (at, (cell, column)) in cells.iter().zip(self.columns).enumerate() {
             let between = if at == 0 { "" } else { "," };
@@ -85,13 +86,22 @@ fn plain(cell: &Cell) -> String {
     }
 }
 
-/// Words of json here have no characters that it escapes but quotes.
 fn json(cell: &Cell) -> String {
     match cell {
         Cell::Number(number) => number.to_string(),
-        Cell::Word(word) => format!("\"{}\"", word.replace('\\', "\\\\").replace('"', "\\\"")),
+        Cell::Word(word) => json_word(word),
         Cell::Nothing => "null".to_string(),
     }
+}
+
+/// A word of json; it may stand in a page too.
+pub fn json_word(word: &str) -> String {
+    let escaped = |letter: char| match letter {
+        '"' | '\\' => format!("\\{letter}"),
+        '<' | '\0'..='\x1f' => format!("\\u{:04x}", u32::from(letter)),
+        _ => letter.to_string(),
+    };
+    format!("\"{}\"", word.chars().map(escaped).collect::<String>())
 }
 
 /// A cell of csv, in quotes where it has a comma or a quote.

@@ -65,7 +65,10 @@ fn told(refusals: &[Refusal], paint: &Paint) -> String {
     for refusal in refusals {
         let line = refusal.line();
         let (front, back) = line.split_once(": refused, ").unwrap_or((&line, ""));
-        text.push_str(&format!("{front}: {}\n", paint.red(&format!("refused, {back}"))));
+        text.push_str(&format!(
+            "{front}: {}\n",
+            paint.red(&format!("refused, {back}"))
+        ));
         text.push_str(&paint.faint(&format!("    to mend it: {}", refusal.mend)));
         text.push('\n');
     }
@@ -84,18 +87,46 @@ fn told(refusals: &[Refusal], paint: &Paint) -> String {
     text
 }
 
-/// Log rows that put another version in the place of one, with the version before.
-pub fn changes(log: &[LogRow]) -> Vec<(u64, LogRow)> {
-    let before = |at: usize, row: &LogRow| {
+/// A row of the log that puts another version in the place of one.
+pub struct Change {
+    row: LogRow,
+    before: LogRow,
+}
+
+impl Change {
+    pub fn line(&self) -> String {
+        let LogRow {
+            day,
+            point,
+            run,
+            version,
+        } = self.row;
+        let old = self.before.version;
+        let of = if self.before.run == run {
+            ""
+        } else {
+            ", which run 1 selects"
+        };
+        format!("day {day}: point {point}, run {run}: version {version} in the place of {old}{of}")
+    }
+}
+
+/// The changes of the log: of a run's selection, and of run 2's from what run 1 selects to a version of its own.
+pub fn changes(log: &[LogRow]) -> Vec<Change> {
+    let last = |at: usize, point: u64, run: u64| {
         log[..at]
             .iter()
             .rev()
-            .find(|old| old.point == row.point && old.run == row.run)
+            .find(|old| old.point == point && old.run == run)
     };
-    log.iter()
-        .enumerate()
-        .filter_map(|(at, row)| before(at, row).map(|old| (old.version, *row)))
-        .collect()
+    let change = |(at, row): (usize, &LogRow)| {
+        let before = last(at, row.point, row.run).or_else(|| last(at, row.point, 1))?;
+        Some(Change {
+            row: *row,
+            before: *before,
+        })
+    };
+    log.iter().enumerate().filter_map(change).collect()
 }
 
 /// The most changes of a selection that the summary names one by one.
@@ -106,15 +137,15 @@ fn selection(replay: &Replay, name: &str) -> String {
     if changes.is_empty() {
         return String::new();
     }
-    let mut text = format!("\n{}\n", count(changes.len(), "selection") + " changed after the first");
-    for (old, row) in changes.iter().take(NAMED) {
-        text.push_str(&format!(
-            "    day {}: point {}, run {}: version {} in the place of {old}\n",
-            row.day, row.point, row.run, row.version
-        ));
+    let mut text = format!("\n{} changed\n", count(changes.len(), "selection"));
+    for change in changes.iter().take(NAMED) {
+        text.push_str(&format!("    {}\n", change.line()));
     }
     if changes.len() > NAMED {
-        text.push_str(&format!("    and {} more: desk log {name}\n", changes.len() - NAMED));
+        text.push_str(&format!(
+            "    and {} more: desk log {name}\n",
+            changes.len() - NAMED
+        ));
     }
     text
 }
@@ -148,7 +179,11 @@ fn groups(replay: &Replay, paint: &Paint) -> String {
             grouped(second),
             grouped(difference)
         );
-        text.push_str(&if difference == 0 { line } else { paint.bold(&line) });
+        text.push_str(&if difference == 0 {
+            line
+        } else {
+            paint.bold(&line)
+        });
         text.push('\n');
     }
     text
@@ -186,11 +221,16 @@ pub fn headline(ran: &Ran) -> String {
 /// `desk run`.
 pub fn run(wanted: &Wanted) -> Result<i32, Failure> {
     let ran = month::run(&wanted.file)?;
-    let paint = Paint { on: output::colours() };
+    let paint = Paint {
+        on: output::colours(),
+    };
     let refusals = refusals::of(&ran);
     let mut text = told(&refusals, &paint);
     if let Some(damage) = ran.damage() {
-        text.push_str(&format!("{}\n\n", paint.red(&format!("{}: {damage}", ran.month.name))));
+        text.push_str(&format!(
+            "{}\n\n",
+            paint.red(&format!("{}: {damage}", ran.month.name))
+        ));
     }
     let status = ran.status();
     let headline = headline(&ran);
@@ -201,7 +241,10 @@ pub fn run(wanted: &Wanted) -> Result<i32, Failure> {
     });
     text.push('\n');
     if let Some(first) = refusals.first().filter(|_| status == REFUSED) {
-        text.push_str(&format!("the first refused: {}\n", first.call.place.whole()));
+        text.push_str(&format!(
+            "the first refused: {}\n",
+            first.call.place.whole()
+        ));
     }
     if ran.replay.quarters > 0 {
         text.push_str(&selection(&ran.replay, &ran.month.name));

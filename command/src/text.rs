@@ -39,7 +39,12 @@ impl<'a> Given<'a> {
     }
 
     /// The numbers of the fields named; each is there, and nothing else is.
-    fn numbers(mut self, names: &[&str], others: Option<&'a str>, further: &str) -> Result<Vec<u64>, String> {
+    fn numbers(
+        mut self,
+        names: &[&str],
+        others: Option<&'a str>,
+        further: &str,
+    ) -> Result<Vec<u64>, String> {
         if let Some((name, _)) = self.fields.iter().find(|(name, _)| !names.contains(name)) {
             return Err(format!(
                 "{} has no field {}; its fields are {}{further}",
@@ -94,7 +99,11 @@ fn call_of(words: &[&str], folder: &Path) -> Result<(u64, Vec<u64>, Vec<u64>), S
             if let Some(word) = others {
                 csv::field("others", word)?;
             }
-            Ok((kind, given.numbers(form.fields, others, ", others")?, Vec::new()))
+            Ok((
+                kind,
+                given.numbers(form.fields, others, ", others")?,
+                Vec::new(),
+            ))
         }
         SUBMIT => {
             let unit = unit_of(given.take("unit"))?;
@@ -112,21 +121,33 @@ fn call_of(words: &[&str], folder: &Path) -> Result<(u64, Vec<u64>, Vec<u64>), S
 /// The words of a line in front of its comment.
 fn words_of(line: &[u8]) -> Result<Vec<&str>, String> {
     let content = line.split(|byte| *byte == b'#').next().unwrap_or(line);
-    let text =
-        std::str::from_utf8(content).map_err(|_| "has bytes that are no text in UTF-8, and not in a comment".to_string())?;
-    Ok(text.split([' ', '\t']).filter(|word| !word.is_empty()).collect())
+    let text = std::str::from_utf8(content)
+        .map_err(|_| "has bytes that are no text in UTF-8, and not in a comment".to_string())?;
+    Ok(text
+        .split([' ', '\t'])
+        .filter(|word| !word.is_empty())
+        .collect())
 }
 
 /// Whether a carriage return stands in front of a line's comment.
 fn has_return(line: &[u8]) -> bool {
-    line.iter().take_while(|byte| **byte != b'#').any(|byte| *byte == b'\r')
+    line.iter()
+        .take_while(|byte| **byte != b'#')
+        .any(|byte| *byte == b'\r')
 }
 
 /// The message file of a text, with its calls; or what is wrong with each bad line.
 pub fn packed(text: &[u8], folder: &Path) -> Result<(Vec<u8>, Vec<Call>), Vec<String>> {
-    let returns = text.split(|byte| *byte == b'\n').filter(|line| has_return(line)).count();
+    let returns = text
+        .split(|byte| *byte == b'\n')
+        .filter(|line| has_return(line))
+        .count();
     if returns > 0 {
-        let first = text.split(|byte| *byte == b'\n').position(has_return).unwrap_or(0) + 1;
+        let first = text
+            .split(|byte| *byte == b'\n')
+            .position(has_return)
+            .unwrap_or(0)
+            + 1;
         return Err(vec![format!(
             "line {first}: has a carriage return, as {returns} lines have; line ends are line feeds alone"
         )]);
@@ -164,14 +185,6 @@ pub fn packed(text: &[u8], folder: &Path) -> Result<(Vec<u8>, Vec<Call>), Vec<St
     }
 }
 
-/// The bytes to the file that is asked for, or to standard output.
-fn deliver(wanted: &Wanted, bytes: &[u8]) -> Result<(), Failure> {
-    match &wanted.to {
-        Some(name) => output::write_file(name, bytes),
-        None => output::write(bytes),
-    }
-}
-
 /// `desk pack`.
 pub fn pack(wanted: &Wanted) -> Result<i32, Failure> {
     if wanted.to.is_none() && io::stdout().is_terminal() {
@@ -190,7 +203,7 @@ pub fn pack(wanted: &Wanted) -> Result<i32, Failure> {
     if month.calls.is_empty() {
         output::warn(&format!("{shown}: has no calls; the message file is empty"));
     }
-    deliver(wanted, &month.file)?;
+    output::deliver(&wanted.to, &month.file)?;
     Ok(ACCEPTED)
 }
 
@@ -201,7 +214,10 @@ fn line_of(call: &Call, reader: &Reader) -> String {
         line.push_str(&format!(" {name}={number}"));
     }
     if call.kind == SUBMIT {
-        let energies: Vec<String> = reader.energies(call.energies).map(|energy| energy.to_string()).collect();
+        let energies: Vec<String> = reader
+            .energies(call.energies)
+            .map(|energy| energy.to_string())
+            .collect();
         line.push_str(" energies=");
         line.push_str(if energies.is_empty() { "none" } else { "" });
         line.push_str(&energies.join(","));
@@ -223,7 +239,10 @@ pub fn print(wanted: &Wanted) -> Result<i32, Failure> {
         match reader.next() {
             Read::Call(call) => {
                 let offset = call.offset;
-                text.push_str(&format!("{}  # offset {offset}\n", line_of(&call.into(), &reader)));
+                text.push_str(&format!(
+                    "{}  # offset {offset}\n",
+                    line_of(&call.into(), &reader)
+                ));
             }
             Read::End => break ACCEPTED,
             Read::Refused(number, offset) => {
@@ -237,8 +256,11 @@ pub fn print(wanted: &Wanted) -> Result<i32, Failure> {
         }
     };
     if file.is_empty() {
-        output::warn(&format!("{}: is empty: it has no calls", input::shown(&wanted.file)));
+        output::warn(&format!(
+            "{}: is empty: it has no calls",
+            input::shown(&wanted.file)
+        ));
     }
-    deliver(wanted, text.as_bytes())?;
+    output::deliver(&wanted.to, text.as_bytes())?;
     Ok(status)
 }
