@@ -133,7 +133,7 @@ fn refused(ran: &Ran) -> String {
         })
         .collect();
     let items: String = refusals.iter().map(item).collect();
-    format!("<h2 class=\"bad\">Refused calls</h2>{first}<div class=\"scroll\"><ol class=\"calls\" id=\"refused\">\n{items}</ol></div>")
+    format!("<h2 class=\"bad\">Refused calls</h2>{first}<div class=\"scroll short\"><ol class=\"calls\" id=\"refused\">\n{items}</ol></div>")
 }
 
 fn changed(replay: &Replay) -> String {
@@ -145,7 +145,7 @@ fn changed(replay: &Replay) -> String {
         .iter()
         .map(|change| format!("<li>{}</li>\n", escaped(&change.line())))
         .collect();
-    format!("<h2>Selections that changed</h2><div class=\"scroll\"><ol class=\"calls\" id=\"changed\">\n{items}</ol></div>")
+    format!("<h2>Selections that changed</h2><div class=\"scroll short\"><ol class=\"calls\" id=\"changed\">\n{items}</ol></div>")
 }
 
 /// Bytes in letters, six bits each.
