@@ -56,8 +56,9 @@ static void put_number(uint64_t number) {
 static uint64_t last_answer(void) {
     static uint64_t values[VALUES], book[BOOK], log[LOG], series[EMORIZUGU_QUARTERS], answers[MOST];
     uint64_t report[EMORIZUGU_REPORT];
+    static uint64_t points[EMORIZUGU_POINTS_LENGTH], versions[EMORIZUGU_VERSIONS_LENGTH];
     emorizugu_replay(file, length, values, VALUES, book, BOOK, log, LOG, series, EMORIZUGU_QUARTERS, answers, MOST,
-                     report, EMORIZUGU_REPORT);
+                     report, EMORIZUGU_REPORT, points, EMORIZUGU_POINTS_LENGTH, versions, EMORIZUGU_VERSIONS_LENGTH);
     return report[EMORIZUGU_ANSWERED] == 0 ? 0 : answers[report[EMORIZUGU_ANSWERED] - 1];
 }
 

@@ -17,39 +17,38 @@
 
 enum { WRITTEN = 0, REFUSED = 1, UNWRITTEN = 2 };
 
-/* The most that a desk can use of each store, and a report. */
+/* The most that a desk can use of each store. */
 enum {
-    VALUES = EMORIZUGU_VERSIONS * EMORIZUGU_QUARTERS,
-    BOOK = EMORIZUGU_BOOK_ROWS * EMORIZUGU_QUARTERS,
-    LOG = 4 * 2 * EMORIZUGU_VERSIONS,
+    VALUES = EMORIZUGU_VALUES_LENGTH(EMORIZUGU_QUARTERS, EMORIZUGU_VERSIONS),
+    BOOK = EMORIZUGU_BOOK_LENGTH(EMORIZUGU_QUARTERS),
+    LOG = EMORIZUGU_LOG_LENGTH(EMORIZUGU_VERSIONS),
 };
 
-struct stores {
-    uint64_t *values, *book, *log, *series, *answers;
-    size_t room; /* for answers */
-    uint64_t report[EMORIZUGU_REPORT];
-};
-
-static int reserve(struct stores *s, size_t file) {
-    /* A call takes at least three bytes. */
-    s->room = file / 3 + 1;
-    s->values = calloc(VALUES, sizeof *s->values);
-    s->book = calloc(BOOK, sizeof *s->book);
-    s->log = calloc(LOG, sizeof *s->log);
-    s->series = calloc(EMORIZUGU_QUARTERS, sizeof *s->series);
-    s->answers = calloc(s->room, sizeof *s->answers);
-    if (s->values && s->book && s->log && s->series && s->answers)
+static int reserve(struct emorizugu_replay *r, const struct file *message) {
+    r->file = message->bytes;
+    r->length = message->length;
+    r->values_length = VALUES;
+    r->book_length = BOOK;
+    r->log_length = LOG;
+    r->series_length = EMORIZUGU_SERIES_LENGTH;
+    r->answers_length = EMORIZUGU_ANSWERS_LENGTH(message->length);
+    r->values = calloc(r->values_length, sizeof *r->values);
+    r->book = calloc(r->book_length, sizeof *r->book);
+    r->log = calloc(r->log_length, sizeof *r->log);
+    r->series = calloc(r->series_length, sizeof *r->series);
+    r->answers = calloc(r->answers_length, sizeof *r->answers);
+    if (r->values && r->book && r->log && r->series && r->answers)
         return 1;
     fprintf(stderr, "book: no memory\n");
     return 0;
 }
 
-static void release(struct stores *s) {
-    free(s->values);
-    free(s->book);
-    free(s->log);
-    free(s->series);
-    free(s->answers);
+static void release(struct emorizugu_replay *r) {
+    free(r->values);
+    free(r->book);
+    free(r->log);
+    free(r->series);
+    free(r->answers);
 }
 
 /* The book's first figures as bytes, eight to a figure, lowest first. */
@@ -68,13 +67,12 @@ static int put_book(const char *name, const uint64_t *book, size_t figures) {
     return written;
 }
 
-static int run(const char *name, const struct file *message, struct stores *s) {
-    uint64_t *report = s->report;
-    uint64_t refusal = emorizugu_replay(message->bytes, message->length, s->values, VALUES, s->book, BOOK, s->log, LOG,
-                                        s->series, EMORIZUGU_QUARTERS, s->answers, s->room, report, EMORIZUGU_REPORT);
+static int run(const char *name, struct emorizugu_replay *r) {
+    const uint64_t *report = r->report;
+    uint64_t refusal = emorizugu_run(r);
     uint64_t i;
     for (i = 0; i < report[EMORIZUGU_ANSWERED]; i++)
-        printf("%" PRIu64 " %" PRIu64 "\n", i + 1, s->answers[i]);
+        printf("%" PRIu64 " %" PRIu64 "\n", i + 1, r->answers[i]);
     if (refusal != EMORIZUGU_ACCEPTED) {
         fprintf(stderr, "book: %s: refused with %" PRIu64 " at offset %" PRIu64 "\n", name, refusal,
                 report[EMORIZUGU_OFFSET]);
@@ -84,6 +82,9 @@ static int run(const char *name, const struct file *message, struct stores *s) {
         fprintf(stderr, "book: %s: no call of it opens the desk\n", name);
         return 0;
     }
+    if (report[EMORIZUGU_REFUSED] != 0)
+        fprintf(stderr, "book: %s: %" PRIu64 " calls are refused, the first is call %" PRIu64 "\n", name,
+                report[EMORIZUGU_REFUSED], report[EMORIZUGU_FIRST]);
     printf("%" PRIu64 " quarter hours, %" PRIu64 " versions, %" PRIu64 " log rows\n", report[EMORIZUGU_OPENED],
            report[EMORIZUGU_HELD], report[EMORIZUGU_LOGGED]);
     return 1;
@@ -91,19 +92,19 @@ static int run(const char *name, const struct file *message, struct stores *s) {
 
 int main(int argc, char **argv) {
     struct file message = {NULL, 0};
-    struct stores s = {0};
+    static struct emorizugu_replay r;
     int status = UNWRITTEN;
     if (argc != 3) {
         fprintf(stderr, "usage: book MESSAGE-FILE BOOK-FILE\n");
         return UNWRITTEN;
     }
-    if (read_file("book", argv[1], &message) && reserve(&s, message.length)) {
-        if (!run(argv[1], &message, &s))
+    if (read_file("book", argv[1], &message) && reserve(&r, &message)) {
+        if (!run(argv[1], &r))
             status = REFUSED;
-        else if (put_book(argv[2], s.book, EMORIZUGU_BOOK_ROWS * (size_t)s.report[EMORIZUGU_OPENED]))
+        else if (put_book(argv[2], r.book, EMORIZUGU_BOOK_LENGTH(r.report[EMORIZUGU_OPENED])))
             status = WRITTEN;
     }
     free(message.bytes);
-    release(&s);
+    release(&r);
     return fflush(stdout) == 0 ? status : UNWRITTEN;
 }

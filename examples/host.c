@@ -39,13 +39,13 @@ static int read_number(const char *word, const char *what, uint64_t *number) {
 
 static const char *cause(uint64_t refusal) {
     switch (refusal) {
-    case EMORIZUGU_ENDS:
+    case EMORIZUGU_CUT:
         return "the file ends inside a call";
-    case EMORIZUGU_FORM:
+    case EMORIZUGU_NOT_SHORTEST:
         return "a number is not in its shortest form, or its ninth byte has the top bit set";
-    case EMORIZUGU_KIND:
+    case EMORIZUGU_BAD_KIND:
         return "a call's kind is not 1 to 7";
-    case EMORIZUGU_COUNT:
+    case EMORIZUGU_TOO_LARGE:
         return "a submission counts more than 2980 energies";
     default:
         return "unknown cause";
@@ -100,7 +100,7 @@ static int has_month(const char *name, const struct file *book, uint64_t quarter
     switch (emorizugu_figure_refusal(book->bytes, book->length, quarters, run, group, 1)) {
     case EMORIZUGU_ACCEPTED:
         return 1;
-    case EMORIZUGU_LENGTH:
+    case EMORIZUGU_WRONG_LENGTH:
         fprintf(stderr, "host: %s: a book of %" PRIu64 " quarter hours has %" PRIu64 " bytes, not %zu\n", name,
                 quarters, EMORIZUGU_BOOK_BYTES * quarters, book->length);
         return 0;

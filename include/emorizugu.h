@@ -1,7 +1,8 @@
 /*
  * emorizugu.h: the settlement desk's entries for a host program in C.
  *
- * Link libhost.a, which `rt staticlib host` writes to target/staticlib/. The header is C99, and C++ may include it.
+ * Link libemorizugu.a, which `./install PREFIX` puts in place with this header (before that, `rt staticlib host` writes it
+ * to target/staticlib/libhost.a). The header is C99, and C++ may include it.
  *
  * What a host may rely on, for every function here:
  * - Any numbers and any bytes get an answer; there is no input for which a call is undefined or does not return.
@@ -11,7 +12,7 @@
  *   threads may call at once, as long as nobody else writes to what they were given.
  *
  * What a host owes: a pointer to so many bytes or numbers as the length says, no two of them overlapping where one is
- * written. A pointer must not be NULL, not even where the length is 0; it may then point anywhere.
+ * written, and EMORIZUGU_STACK bytes of stack. NULL is allowed where the length is 0: nothing is then read or written.
  */
 #ifndef EMORIZUGU_H
 #define EMORIZUGU_H
@@ -23,15 +24,38 @@
 extern "C" {
 #endif
 
-/* Answers: accepted, and the refusals that the functions here give. */
-#define EMORIZUGU_ACCEPTED 0
-#define EMORIZUGU_LENGTH 2   /* figure: the book has another length than 1,296 bytes a quarter hour */
-#define EMORIZUGU_RANGE 3    /* figure: quarters, run, group or quarter is outside its range */
-#define EMORIZUGU_ENDS 31    /* file: it ends inside a call */
-#define EMORIZUGU_FORM 32    /* file: a number is not in its shortest form, or its ninth byte has the top bit set */
-#define EMORIZUGU_KIND 33    /* file: a call's kind is not 1 to 7 */
-#define EMORIZUGU_COUNT 34   /* file: a submission counts more than 2,980 energies */
-#define EMORIZUGU_ROOM 35    /* replay: more energies than the series buffer holds, or more calls than the answers */
+/* The version of these entries. It rises with every change that a host notices; emorizugu_version() is the library's. */
+#define EMORIZUGU_VERSION 2
+
+/* Answers: accepted, and the causes of a refusal in the order in which they are checked. docs/CAUSES.md has them in words. */
+#define EMORIZUGU_ACCEPTED         0
+#define EMORIZUGU_NOT_OPEN         1   /* the desk is not open */
+#define EMORIZUGU_WRONG_LENGTH     2   /* a store or slice of another length */
+#define EMORIZUGU_BAD_FIELD        3   /* a field outside its range */
+#define EMORIZUGU_OPEN_AGAIN       6   /* the desk is open already */
+#define EMORIZUGU_BAD_OPENING      4   /* quarter hours, deadlines, groups or lengths not allowed */
+#define EMORIZUGU_PAST_DAY         5   /* the day lies before the desk's day */
+#define EMORIZUGU_AFTER_CORRECTION 11  /* the day lies behind the correction deadline */
+#define EMORIZUGU_AFTER_CLEARING   26  /* assign: the day lies behind the clearing deadline */
+#define EMORIZUGU_POINT_ACTIVE     21  /* activate: the point is active */
+#define EMORIZUGU_SAME_SERIES      22  /* activate: an active point has the same series */
+#define EMORIZUGU_NOT_ACTIVE       12  /* the point is not active */
+#define EMORIZUGU_HAS_VERSION      23  /* deactivate: the point has a version */
+#define EMORIZUGU_TOO_EARLY        13  /* submit: less than two days after the activation */
+#define EMORIZUGU_VERSION_PRESENT  14  /* submit: the point has this version */
+#define EMORIZUGU_VERSION_BELOW    15  /* submit: the version lies below the point's highest */
+#define EMORIZUGU_NO_VERSION       24  /* notice: the point has no such version */
+#define EMORIZUGU_NOT_CHECK_DATA   25  /* notice: the version is no check data */
+#define EMORIZUGU_NO_ROW           16  /* submit: no row of values left, or 512 versions held */
+#define EMORIZUGU_NO_LOG_ROW       17  /* no log row left */
+#define EMORIZUGU_SETTLE_TOO_EARLY 27  /* settle: the day does not lie behind the run's deadline */
+#define EMORIZUGU_ALREADY_SETTLED  28  /* settle: the run is settled */
+#define EMORIZUGU_FIRST_RUN_OPEN   29  /* settle of run 2: run 1 is not settled */
+#define EMORIZUGU_CUT              31  /* file: it ends inside a call */
+#define EMORIZUGU_NOT_SHORTEST     32  /* file: a number is not in its shortest form */
+#define EMORIZUGU_BAD_KIND         33  /* file: a call's kind is not 1 to 7 */
+#define EMORIZUGU_TOO_LARGE        34  /* file: more than 2,980 energies; write: a number that a file cannot carry */
+#define EMORIZUGU_NO_ROOM          35  /* file: a lent buffer, output or answers too short */
 
 /* Ranges: quarter hours of a month, runs, balance groups, each counted from 1; and the bytes of a book a quarter hour. */
 #define EMORIZUGU_QUARTERS 2980
@@ -39,19 +63,67 @@ extern "C" {
 #define EMORIZUGU_GROUPS 64
 #define EMORIZUGU_BOOK_BYTES 1296
 
-/* Figures of a book a quarter hour, and the most versions that a desk holds. */
+/* Figures of a book a quarter hour; the versions that a desk holds at most, and its points. */
 #define EMORIZUGU_BOOK_ROWS 162
 #define EMORIZUGU_VERSIONS 512
+#define EMORIZUGU_POINTS 256
+
+/*
+ * Numbers to lend for a month of so many quarter hours and versions: nothing is then refused for want of room. The log
+ * has at most two rows a version. A call of a file takes at least three bytes, so length / 3 + 1 answers are enough.
+ */
+#define EMORIZUGU_VALUES_LENGTH(quarters, versions) ((size_t)(quarters) * (size_t)(versions))
+#define EMORIZUGU_BOOK_LENGTH(quarters) (EMORIZUGU_BOOK_ROWS * (size_t)(quarters))
+#define EMORIZUGU_LOG_LENGTH(versions) (8 * (size_t)(versions))
+#define EMORIZUGU_SERIES_LENGTH EMORIZUGU_QUARTERS
+#define EMORIZUGU_ANSWERS_LENGTH(file_length) ((file_length) / 3 + 1)
+
+/* The stack that a call needs, in bytes, with room to spare. */
+#define EMORIZUGU_STACK 262144
 
 /* The places of a replay's report. */
 enum {
-    EMORIZUGU_ANSWERED, /* calls answered */
-    EMORIZUGU_OFFSET,   /* as emorizugu_file_offset gives it; 0 where the answers are full */
-    EMORIZUGU_OPENED,   /* quarter hours of the opening; 0 where no call opened the desk */
-    EMORIZUGU_LOGGED,   /* log rows used */
-    EMORIZUGU_HELD,     /* versions held */
-    EMORIZUGU_REPORT    /* how many places these are */
+    EMORIZUGU_ANSWERED,  /* calls answered */
+    EMORIZUGU_OFFSET,    /* as emorizugu_file_offset gives it; 0 where the answers are full */
+    EMORIZUGU_OPENED,    /* quarter hours of the opening; 0 where no call opened the desk */
+    EMORIZUGU_LOGGED,    /* log rows used */
+    EMORIZUGU_HELD,      /* versions held */
+    EMORIZUGU_REFUSED,   /* calls refused */
+    EMORIZUGU_FIRST,     /* the number of the first refused call, counted from 1; 0 where there is none */
+    EMORIZUGU_DAY,       /* the desk's day */
+    EMORIZUGU_SETTLED_1, /* 1 where run 1 is settled, else 0 */
+    EMORIZUGU_SETTLED_2, /* 1 where run 2 is settled, else 0 */
+    EMORIZUGU_REPORT     /* how many places these are */
 };
+
+/* The places of a point, and of all points: point p begins at (p - 1) x EMORIZUGU_POINT. */
+enum {
+    EMORIZUGU_ACTIVE,     /* 1 where it is active, else 0 */
+    EMORIZUGU_SINCE,      /* the day of its activation; this and what follows up to the partner is 0 of a free point */
+    EMORIZUGU_SERIES_KIND,
+    EMORIZUGU_AREA,
+    EMORIZUGU_PARTNER,
+    EMORIZUGU_SELECTED_1, /* the version that run 1 selects; 0 where there is none */
+    EMORIZUGU_SELECTED_2, /* the version that run 2 selects */
+    EMORIZUGU_POINT
+};
+#define EMORIZUGU_POINTS_LENGTH (EMORIZUGU_POINT * EMORIZUGU_POINTS)
+
+/* The places of a version, and of all versions, in the order of their submission; EMORIZUGU_HELD of them are filled. */
+enum {
+    EMORIZUGU_OF_POINT,
+    EMORIZUGU_NUMBER,
+    EMORIZUGU_STATUS, /* 1 check data, 2 settlement data, 3 settled, 4 correction settlement data, 5 correction settled */
+    EMORIZUGU_ROW,    /* its row of values: row i begins at i x quarters */
+    EMORIZUGU_HELD_VERSION
+};
+#define EMORIZUGU_VERSIONS_LENGTH (EMORIZUGU_HELD_VERSION * EMORIZUGU_VERSIONS)
+
+/* The places of a call that was read: the next offset, the kind, its fields in the file's order, the energies' count. */
+enum { EMORIZUGU_NEXT, EMORIZUGU_CALL_KIND, EMORIZUGU_FIELDS, EMORIZUGU_COUNT = EMORIZUGU_FIELDS + 21, EMORIZUGU_CALL };
+
+/* The version of the library that is linked. */
+uint64_t emorizugu_version(void);
 
 /*
  * The verdict on a message file: 0 where the reader takes every call of it, as it does an empty file, else the number
@@ -70,7 +142,9 @@ uint64_t emorizugu_file_offset(const uint8_t *file, size_t length);
  * quarter 1 to quarters), else 2 for a book of another length than 1,296 x quarters bytes, else 0.
  *
  * A book has eight bytes to a figure, lowest first, in two's complement. Run r, row k and quarter hour q stand at
- * figure ((r - 1) x 81 + k) x quarters + q - 1; row k is that of group k + 1.
+ * figure ((r - 1) x 81 + k) x quarters + q - 1; row k is that of group k + 1. The book of a replay has a 64-bit word to
+ * a figure; on a machine with its lowest byte first, as x86-64 is, it is such a book as it stands:
+ * (const uint8_t *)book, 8 x 162 x quarters.
  */
 uint64_t emorizugu_figure_refusal(const uint8_t *book, size_t length, uint64_t quarters, uint64_t run, uint64_t group,
                                   uint64_t quarter);
@@ -92,15 +166,74 @@ uint64_t emorizugu_figure(const uint8_t *book, size_t length, uint64_t quarters,
  * complement, at the places that emorizugu_figure_refusal names; the log four numbers a row: day, point, run, new
  * version. What the desk did not use is as it was.
  * series: room for a submission's energies. answers: answers[i] is that of call i + 1: 0, or the number of the cause
- * that the desk refuses it for. report: EMORIZUGU_REPORT places.
+ * that the desk refuses it for. report: EMORIZUGU_REPORT places; points: EMORIZUGU_POINTS_LENGTH; versions:
+ * EMORIZUGU_VERSIONS_LENGTH.
  *
  * 0 where the whole file was run, else the number of the reader's refusal, 31 to 35, or 35 where the answers are full
- * and bytes are left (the report then has as many calls answered as there are answers). 2 where the report has fewer
- * places; nothing is done then.
+ * and bytes are left (the report then has as many calls answered as there are answers). 2 where report, points or
+ * versions have fewer places; nothing is done then. A file that was run may have calls that were refused: the report
+ * says how many, and which was the first.
  */
 uint64_t emorizugu_replay(const uint8_t *file, size_t length, uint64_t *values, size_t values_length, uint64_t *book,
                           size_t book_length, uint64_t *log, size_t log_length, uint64_t *series, size_t series_length,
-                          uint64_t *answers, size_t answers_length, uint64_t *report, size_t report_length);
+                          uint64_t *answers, size_t answers_length, uint64_t *report, size_t report_length,
+                          uint64_t *points, size_t points_length, uint64_t *versions, size_t versions_length);
+
+/* What a replay is lent, by name. */
+struct emorizugu_replay {
+    const uint8_t *file;
+    size_t length;
+    uint64_t *values;
+    size_t values_length;
+    uint64_t *book;
+    size_t book_length;
+    uint64_t *log;
+    size_t log_length;
+    uint64_t *series;
+    size_t series_length;
+    uint64_t *answers;
+    size_t answers_length;
+    uint64_t report[EMORIZUGU_REPORT];
+    uint64_t points[EMORIZUGU_POINTS_LENGTH];
+    uint64_t versions[EMORIZUGU_VERSIONS_LENGTH];
+};
+
+/* emorizugu_replay with what is lent by name. */
+static inline uint64_t emorizugu_run(struct emorizugu_replay *r) {
+    return emorizugu_replay(r->file, r->length, r->values, r->values_length, r->book, r->book_length, r->log,
+                            r->log_length, r->series, r->series_length, r->answers, r->answers_length, r->report,
+                            EMORIZUGU_REPORT, r->points, EMORIZUGU_POINTS_LENGTH, r->versions,
+                            EMORIZUGU_VERSIONS_LENGTH);
+}
+
+/*
+ * The sum of a run's row over the month, from a replay's book: rows 0 to 63 are groups 1 to 64, row 64 is the delta of
+ * the transmission operator, rows 65 to 80 are the deltas of areas 1 to 16. A 64-bit word in two's complement; no sum
+ * of a replay's book is larger than 64 bits. 0 where quarters, run or row is outside its range; what the book has not
+ * counts as 0.
+ */
+uint64_t emorizugu_sum(const uint64_t *book, size_t length, uint64_t quarters, uint64_t run, uint64_t row);
+
+/* Run 2's sum of a row less run 1's. */
+uint64_t emorizugu_difference(const uint64_t *book, size_t length, uint64_t quarters, uint64_t row);
+
+/*
+ * The call of a message file at an offset, as numbers: call has EMORIZUGU_CALL places, of which a kind's fields are
+ * filled; a submission's energies, each a 64-bit word in two's complement, go to series. 0 for a call; 1 where the file
+ * ends there; 31 to 35 for a refusal, with its offset in the first place; 2 where call has fewer places, and nothing
+ * is done.
+ */
+uint64_t emorizugu_read(const uint8_t *file, size_t length, uint64_t start, uint64_t *series, size_t series_length,
+                        uint64_t *call, size_t call_length);
+
+/*
+ * A call's bytes to the start of an output, and how many they are to size[0]. Fields that are missing count as 0; only a
+ * submission (kind 4) has a series. 0; 33 to 35 for a refusal, with size[0] 0 and the output as it was; 2 where size has
+ * no place, and nothing is done. Nine bytes a number are always enough.
+ */
+uint64_t emorizugu_write(uint64_t kind, const uint64_t *fields, size_t fields_length, const uint64_t *series,
+                         size_t series_length, uint8_t *output, size_t output_length, uint64_t *size,
+                         size_t size_length);
 
 #ifdef __cplusplus
 }

@@ -1,6 +1,6 @@
 //! The host's entry for a whole message file, lent the buffers of a replay.
 
-use crate::buffers::Buffers;
+use crate::buffers::{Buffers, REPORT};
 use emorizugu_tests::linked;
 
 /// A whole message file through a fresh desk: 0, or the number of the refusal that ended it.
@@ -13,5 +13,10 @@ pub fn replay(file: &[u8], buffers: &mut Buffers) -> u64 {
         answers,
         report,
     } = buffers;
-    linked::replay(file, values, book, log, series, answers, report)
+    let (mut told, mut points, mut versions) = ([0; 10], [0; 7 * 256], [0; 4 * 512]);
+    let tables = [&mut told[..], &mut points, &mut versions];
+    let number = linked::replay(file, values, book, log, series, answers, tables);
+    let places = report.len().min(REPORT);
+    report[..places].copy_from_slice(&told[..places]);
+    number
 }

@@ -35,6 +35,10 @@ extern "C" {
         answers_len: usize,
         report: *mut u64,
         report_len: usize,
+        points: *mut u64,
+        points_len: usize,
+        versions: *mut u64,
+        versions_len: usize,
     ) -> u64;
     fn emorizugu_read(
         file: *const u8,
@@ -90,7 +94,7 @@ pub fn figure(book: &[u8], quarters: u64, run: u64, group: u64, quarter: u64) ->
     unsafe { emorizugu_figure(book.as_ptr(), book.len(), quarters, run, group, quarter) }
 }
 
-/// `emorizugu_replay`.
+/// `emorizugu_replay`; the tables are report, points and versions.
 pub fn replay(
     file: &[u8],
     values: &mut [u64],
@@ -98,8 +102,9 @@ pub fn replay(
     log: &mut [u64],
     series: &mut [u64],
     answers: &mut [u64],
-    report: &mut [u64],
+    tables: [&mut [u64]; 3],
 ) -> u64 {
+    let [report, points, versions] = tables;
     unsafe {
         emorizugu_replay(
             file.as_ptr(),
@@ -116,6 +121,10 @@ pub fn replay(
             answers.len(),
             report.as_mut_ptr(),
             report.len(),
+            points.as_mut_ptr(),
+            points.len(),
+            versions.as_mut_ptr(),
+            versions.len(),
         )
     }
 }

@@ -7,14 +7,23 @@ use crate::generator::Random;
 use crate::message::{self, fields_of, Refusal};
 use crate::script::Stores;
 
-/// Places of a report: calls answered, offset, quarter hours, log rows used, versions held.
-pub const REPORT: usize = 5;
+/// Places of a report: calls answered, offset, quarter hours, log rows used, versions held, calls refused, the first of
+/// them, the day, whether run 1 and run 2 are settled.
+pub const REPORT: usize = 10;
+
+/// Places of the points, seven each: active, since, kind, area, partner, the version of run 1, the version of run 2.
+pub const POINTS: usize = 7 * 256;
+
+/// Places of the versions, four each: point, number, status, row of values.
+pub const VERSIONS: usize = 4 * 512;
 
 /// Figures of a book a quarter hour.
 pub const BOOK_ROWS: u64 = 162;
 
 /// The stores of a replay, in their order.
-pub const NAMES: [&str; 6] = ["values", "book", "log", "series", "answers", "report"];
+pub const NAMES: [&str; 8] = [
+    "values", "book", "log", "series", "answers", "report", "points", "versions",
+];
 
 /// What a replay is lent.
 #[derive(Clone, Debug, PartialEq, Eq)]
@@ -25,17 +34,17 @@ pub struct Lent {
     pub series: Vec<u64>,
     /// Room for the answers.
     pub answers: Vec<u64>,
-    /// Room for the report.
-    pub report: Vec<u64>,
+    /// Room for the report, the points and the versions.
+    pub tables: [Vec<u64>; 3],
 }
 
 impl Lent {
-    /// Stores, series buffer, answers and report of so many places, filled with words from a seed.
+    /// Stores, series buffer, answers, report, points and versions of so many places, filled with words from a seed.
     pub fn filled(
         lengths: Lengths,
         series: usize,
         answers: usize,
-        report: usize,
+        tables: [usize; 3],
         seed: u64,
     ) -> Lent {
         let stores = Stores::filled(lengths, seed);
@@ -45,14 +54,16 @@ impl Lent {
             stores,
             series: filled(series),
             answers: filled(answers),
-            report: filled(report),
+            tables: tables.map(filled),
         }
     }
 
     /// Each store, in the order of `NAMES`.
-    pub fn each(&self) -> [&[u64]; 6] {
+    pub fn each(&self) -> [&[u64]; 8] {
         let Stores { values, book, log } = &self.stores;
-        [values, book, log, &self.series, &self.answers, &self.report]
+        let [report, points, versions] = &self.tables;
+        let (series, answers) = (&self.series, &self.answers);
+        [values, book, log, series, answers, report, points, versions]
     }
 
     fn lengths(&self) -> Lengths {
@@ -162,10 +173,16 @@ fn lent_to(call: &Call, desk: &Desk, whole: Lengths) -> Lengths {
     }
 }
 
-/// Runs a file and leaves in every store what the run makes of it; none where the report has fewer than its places,
-/// and every store is then as it was.
+/// Whether report, points and versions have their places.
+fn fit(tables: &[Vec<u64>; 3]) -> bool {
+    let [report, points, versions] = tables;
+    report.len() >= REPORT && points.len() >= POINTS && versions.len() >= VERSIONS
+}
+
+/// Runs a file and leaves in every store what the run makes of it; none where report, points or versions have fewer
+/// than their places, and every store is then as it was.
 pub fn replay(file: &[u8], lent: &mut Lent) -> Option<Run> {
-    if lent.report.len() < REPORT {
+    if !fit(&lent.tables) {
         return None;
     }
     let lengths = lent.lengths();
@@ -174,17 +191,59 @@ pub fn replay(file: &[u8], lent: &mut Lent) -> Option<Run> {
         *place = *answer;
     }
     lent.stores = stores_after(&run.desk, lent.stores.clone());
-    let month = run.desk.month();
-    let of_month = match &month {
-        Some(month) => [
-            month.quarters,
-            month.log.len() as u64,
-            month.rows.len() as u64,
-        ],
-        None => [0; 3],
-    };
-    let answered = run.answered.len() as u64;
-    lent.report[..2].copy_from_slice(&[answered, run.ending.offset()]);
-    lent.report[2..REPORT].copy_from_slice(&of_month);
+    let told = [report_of(&run).to_vec(), points_of(&run), versions_of(&run)];
+    for (table, told) in lent.tables.iter_mut().zip(told) {
+        table[..told.len()].copy_from_slice(&told);
+    }
     Some(run)
+}
+
+fn report_of(run: &Run) -> [u64; REPORT] {
+    let refused = || run.answered.iter().map(|(_, answer)| *answer != 0);
+    let first = refused().position(|refused| refused);
+    let mut report = [0; REPORT];
+    report[0] = run.answered.len() as u64;
+    report[1] = run.ending.offset();
+    report[5] = refused().filter(|refused| *refused).count() as u64;
+    report[6] = first.map_or(0, |at| at as u64 + 1);
+    if let Some(month) = run.desk.month() {
+        report[2] = month.quarters;
+        report[3] = month.log.len() as u64;
+        report[4] = month.rows.len() as u64;
+        report[7] = month.day;
+        report[8] = month.settled[0].into();
+        report[9] = month.settled[1].into();
+    }
+    report
+}
+
+fn points_of(run: &Run) -> Vec<u64> {
+    let mut places = vec![0; POINTS];
+    let month = run.desk.month();
+    for (number, point) in month.iter().flat_map(|month| &month.points) {
+        let selected = |run| point.selected(run).map_or(0, |version| version.number);
+        let told = [
+            1,
+            point.since,
+            point.kind,
+            point.area,
+            point.partner,
+            selected(1),
+            selected(2),
+        ];
+        places[7 * (*number as usize - 1)..][..7].copy_from_slice(&told);
+    }
+    places
+}
+
+fn versions_of(run: &Run) -> Vec<u64> {
+    let month = run.desk.month();
+    let points = month.iter().flat_map(|month| &month.points);
+    let versions = points.flat_map(|(point, held)| held.versions.iter().map(move |v| (*point, v)));
+    let mut places = vec![0; 4 * month.as_ref().map_or(0, |month| month.rows.len())];
+    for (point, version) in versions {
+        let told = [point, version.number, version.status, version.row as u64];
+        places[4 * version.row..][..4].copy_from_slice(&told);
+    }
+    places
 }

@@ -10,7 +10,9 @@ use emorizugu_tests::linked;
 use emorizugu_tests::message::{self, MOST_ENERGIES};
 use emorizugu_tests::months::{self, Size, SPARE};
 use emorizugu_tests::numbers::SHORT;
-use emorizugu_tests::replay::{self, Ending, Lent, Run, BOOK_ROWS, NAMES, REPORT};
+use emorizugu_tests::replay::{
+    self, Ending, Lent, Run, BOOK_ROWS, NAMES, POINTS, REPORT, VERSIONS,
+};
 use emorizugu_tests::tally::Tally;
 
 /// Files that are compared.
@@ -40,9 +42,12 @@ struct Case {
     lengths: Lengths,
     series: usize,
     answers: usize,
-    report: usize,
+    tables: [usize; 3],
     seed: u64,
 }
+
+/// Report, points and versions with their places, and no more.
+const TABLES: [usize; 3] = [REPORT, POINTS, VERSIONS];
 
 impl Case {
     fn file(&self) -> Vec<u8> {
@@ -54,11 +59,11 @@ impl Case {
             lengths,
             series,
             answers,
-            report,
+            tables,
             seed,
             ..
         } = *self;
-        Lent::filled(lengths, series, answers, report, seed)
+        Lent::filled(lengths, series, answers, tables, seed)
     }
 
     /// The run of the second replay, and where the linked one differs from it, as text.
@@ -91,11 +96,11 @@ impl Case {
             lengths,
             series,
             answers,
-            report,
+            tables,
             ..
         } = self;
         let mut text = format!(
-            "the replays differ: {lengths}, series {series}, answers {answers}, report {report}\n"
+            "the replays differ: {lengths}, series {series}, answers {answers}, tables {tables:?}\n"
         );
         for (at, line) in files::lines(&file, *series).iter().enumerate() {
             let answer = plain.answers.get(at).map(|&answer| answer as i64);
@@ -127,7 +132,10 @@ impl Case {
     fn count(&self, run: Option<&Run>, tally: &mut Tally) {
         let number = run.map_or(SHORT, |run| run.ending.number());
         tally.add("replay", number);
-        tally.add("report's places", self.report as u64);
+        let names = ["report's places", "points' places", "versions' places"];
+        for (name, places) in names.into_iter().zip(self.tables) {
+            tally.add(name, places as u64);
+        }
         let Some(run) = run else { return };
         let what = match run.ending {
             Ending::Full => "the answers are full",
@@ -207,14 +215,16 @@ impl Case {
 }
 
 /// The linked replay's number, and the stores that it leaves, each between what it is not lent.
-fn linked_replay(file: &[u8], lent: &Lent) -> (u64, [Vec<u64>; 6]) {
+fn linked_replay(file: &[u8], lent: &Lent) -> (u64, [Vec<u64>; 8]) {
     let mut stores = lent.each().map(|store| [&FENCE, store, &FENCE].concat());
     let inside = |store: &mut Vec<u64>| FENCE.len()..store.len() - FENCE.len();
-    let [values, book, log, series, answers, report] = stores.each_mut().map(|store| {
-        let inside = inside(store);
-        &mut store[inside]
-    });
-    let number = linked::replay(file, values, book, log, series, answers, report);
+    let [values, book, log, series, answers, report, points, versions] =
+        stores.each_mut().map(|store| {
+            let inside = inside(store);
+            &mut store[inside]
+        });
+    let tables = [report, points, versions];
+    let number = linked::replay(file, values, book, log, series, answers, tables);
     (number, stores)
 }
 
@@ -291,18 +301,20 @@ fn case(random: &mut Random, size: Size) -> (Case, Shape) {
         5..=8 => read,
         _ => read + 1 + random.below(5),
     };
-    let report = match random.below(32) {
-        0 => 0,
-        1 => 4,
-        2..=16 => REPORT,
-        _ => 9,
+    let tables = match random.below(32) {
+        0 => [0, 0, 0],
+        1 => [REPORT - 1, POINTS, VERSIONS],
+        2 => [REPORT, POINTS - 1, VERSIONS],
+        3 => [REPORT, POINTS, VERSIONS - 1],
+        4..=16 => TABLES,
+        _ => [REPORT + 4, POINTS + 3, VERSIONS + 5],
     };
     let case = Case {
         parts,
         lengths,
         series,
         answers,
-        report,
+        tables,
         seed: random.word(),
     };
     (case, shape)
@@ -326,7 +338,9 @@ fn files_of_months_agree() {
     tally.demand("count above the series buffer", &[35], LEAST);
     tally.demand("the answers are full", &[35], LEAST);
     tally.demand("as the file's verdict", &[0, 31, 32, 33, 34], LEAST);
-    tally.demand("report's places", &[0, 4, 5, 9], LEAST);
+    tally.demand("report's places", &[0, 9, 10, 14], LEAST);
+    tally.demand("points' places", &[0, 1_791, 1_792, 1_795], LEAST);
+    tally.demand("versions' places", &[0, 2_047, 2_048, 2_053], LEAST);
     tally.demand("series buffer", &[0, 1, 2, 3, 4, 5, 7, 8, 9, 2_980], 20);
     for (call, answers) in ANSWERS {
         tally.demand(call, answers, LEAST);
@@ -425,7 +439,7 @@ fn accepted_case() -> Case {
         },
         series: 2,
         answers: 8,
-        report: REPORT,
+        tables: TABLES,
         seed: 13,
     }
 }
@@ -456,9 +470,10 @@ fn every_cut_agrees() {
 fn every_length_agrees() {
     let (case, mut tally) = (accepted_case(), Tally::new());
     let mut compare = |lengths: Lengths, report: usize| {
+        let tables = [report, POINTS, VERSIONS];
         let case = Case {
             lengths,
-            report,
+            tables,
             ..case.clone()
         };
         case.compare(&mut tally);
@@ -513,7 +528,7 @@ fn the_example_leaves_what_document_01_says() {
         },
         series: 2,
         answers: 5,
-        report: 6,
+        tables: [REPORT + 1, POINTS, VERSIONS],
         seed: 14,
     };
     let before = case.lent();
@@ -526,7 +541,11 @@ fn the_example_leaves_what_document_01_says() {
     after.stores.log[..4].copy_from_slice(&[2, 1, 1, 7]);
     after.series[0] = 1000;
     after.answers[..4].copy_from_slice(&[0, 0, 0, 14]);
-    after.report[..5].copy_from_slice(&[4, 43, 1, 1, 1]);
+    let [report, points, versions] = &mut after.tables;
+    report[..REPORT].copy_from_slice(&[4, 43, 1, 1, 1, 1, 4, 2, 0, 0]);
+    points.fill(0);
+    points[..7].copy_from_slice(&[1, 0, 1, 1, 0, 7, 7]);
+    versions[..4].copy_from_slice(&[1, 7, 2, 0]);
     let (mut plain, file) = (before, case.file());
     let run = replay::replay(&file, &mut plain);
     assert_eq!(run.map(|run| run.ending), Some(Ending::End(43)));
