@@ -24,7 +24,7 @@ enum {
     LOG = EMORIZUGU_LOG_LENGTH(EMORIZUGU_VERSIONS),
 };
 
-static int reserve(struct emorizugu_replay *r, const struct file *message) {
+static int reserve(struct emorizugu_lent *r, const struct file *message) {
     r->file = message->bytes;
     r->length = message->length;
     r->values_length = VALUES;
@@ -43,7 +43,7 @@ static int reserve(struct emorizugu_replay *r, const struct file *message) {
     return 0;
 }
 
-static void release(struct emorizugu_replay *r) {
+static void release(struct emorizugu_lent *r) {
     free(r->values);
     free(r->book);
     free(r->log);
@@ -67,7 +67,7 @@ static int put_book(const char *name, const uint64_t *book, size_t figures) {
     return written;
 }
 
-static int run(const char *name, struct emorizugu_replay *r) {
+static int run(const char *name, struct emorizugu_lent *r) {
     const uint64_t *report = r->report;
     uint64_t refusal = emorizugu_run(r);
     uint64_t i;
@@ -92,7 +92,7 @@ static int run(const char *name, struct emorizugu_replay *r) {
 
 int main(int argc, char **argv) {
     struct file message = {NULL, 0};
-    static struct emorizugu_replay r;
+    static struct emorizugu_lent r;
     int status = UNWRITTEN;
     if (argc != 3) {
         fprintf(stderr, "usage: book MESSAGE-FILE BOOK-FILE\n");

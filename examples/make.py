@@ -2,26 +2,22 @@
 """Writes the files that the host example is run on, to the folder given or to its own.
 
 Message files: `example.msg` is the one that document 01 writes out, `month.msg` its sample month, packed from
-`month.calls`; the others are empty or damaged, and each is refused for one cause. Books, both of two quarter hours: `month.book` has the figures of document 01's sample month,
-`edges.book` figures at both ends of the 64-bit range, and `short.book` lacks its last byte.
+`month.calls`; the others are empty or damaged, and each is refused for one cause. Books, both of two quarter hours:
+`month.book` has the figures of document 01's sample month, `edges.book` figures at both ends of the 64-bit range, and
+`short.book` lacks its last byte.
 """
 
 import pathlib
 import struct
+import subprocess
 import sys
-
-sys.dont_write_bytecode = True
-from message import pack
 
 OWN = pathlib.Path(__file__).resolve().parent
 
 
 def packed(name):
-    """The message file of a text beside this script."""
-    file, complaints = pack((OWN / name).read_text("utf-8"))
-    if complaints:
-        sys.exit("\n".join(f"{name}: {complaint}" for complaint in complaints))
-    return file
+    """The message file of a text beside this script, by `desk pack`."""
+    return subprocess.run([OWN.parent / "desk", "pack", OWN / name], stdout=subprocess.PIPE, check=True).stdout
 
 
 # Open, activate, and one submission sent twice.

@@ -1,5 +1,5 @@
 #!/bin/sh
-# Tests of the desk program by ./run, of ./run itself and of examples/message.py.
+# Tests of the desk program by ./run, and of ./run itself.
 # Prints a line for each test and, as its very last line, 'N passed, M failed'; the exit status is 0 where M is 0.
 # Writes under target/ only. Builds the program first where it is missing or old.
 set -u
@@ -41,13 +41,9 @@ expect() {
     fi
 }
 
-message() {
-    python3 examples/message.py "$@"
-}
-
 # pack NAME: the text on standard input, as the message file NAME.
 pack() {
-    message pack >"$work/$1" || fail "pack of $1"
+    ./desk pack - -o "$work/$1" || fail "pack of $1"
 }
 
 OPEN='open quarters=1 first=10 clearing=30 correction=150 T=4 1=1 2=2 others=3'
@@ -104,7 +100,9 @@ G 2 2 5 45000
 G 2 2 6 8200
 T 2 2 80000
 END
-    expect 'an empty file' 0 ./run examples/empty.msg </dev/null
+    expect 'an empty file' 0 ./run examples/empty.msg <<END
+! run: examples/empty.msg is empty: it has no calls
+END
     expect 'a file on standard input' 0 sh -c './run - <examples/kind.msg' <<END
 1 0
 2 0
@@ -262,6 +260,11 @@ desk_on_long_files() {
     expect 'more than 65,536 bytes' 0 ./run "$work/long.msg" <"$work/long"
     echo '! run: standard input has more than 65536 bytes; the desk reads the first 65536' | cat "$work/full" - >"$work/long"
     expect 'more than 65,536 bytes on standard input' 0 sh -c "./run - <'$work/long.msg'" <"$work/long"
+    expect 'more than 65,536 bytes in a pipe' 0 sh -c "cat '$work/long.msg' | ./run -" <"$work/long"
+    rm -f "$work/pipe"
+    mkfifo "$work/pipe"
+    echo "! run: $work/pipe has more than 65536 bytes; the desk reads the first 65536" | cat "$work/full" - >"$work/long"
+    expect 'more than 65,536 bytes in a named pipe' 0 sh -c "(cat '$work/long.msg' >'$work/pipe' &) && ./run '$work/pipe'" <"$work/long"
     # 122 bytes, 21,804 deactivations, and a deactivation that is cut behind its second byte.
     { cat examples/month.msg && repeat 030100 21900; } >"$work/cut.msg"
     {
@@ -306,69 +309,63 @@ END
     expect 'run: output that cannot be written' 1 sh -c './run >/dev/full' <<END
 ! emorizugu: the output cannot be written
 END
-    # A copy that has no program, where there is no rt.
-    rm -rf "$work/copy"
-    mkdir -p "$work/copy/bin" "$work/copy/crates"
-    cp -R run crates.txt examples "$work/copy"
-    for tool in bash cat dirname find mkdir; do ln -s "$(command -v "$tool")" "$work/copy/bin/$tool"; done
-    expect 'run: no toolchain' 2 env PATH="$work/copy/bin" "$work/copy/run" <<END
+    expect 'run: standard input closed' 2 sh -c './run - <&-' <<END
+! run: standard input is closed
+END
+    expect 'run: standard output closed' 2 sh -c './run >&-' <<END
+! run: standard output is closed
+END
+    expect 'run: a folder on standard input' 2 sh -c './run - <examples' <<END
+! run: standard input: is a folder
+END
+    expect 'run: no room to keep standard input' 2 sh -c "TMPDIR='$work/nowhere' ./run - <examples/month.msg 2>&1 | sed 's/^mktemp.*/mktemp/'; exit 2" <<END
+mktemp
+run: standard input cannot be kept: there is no room for a temporary file
+END
+    expect 'run: a text file' 0 ./run examples/month.calls <<END
+F 33 0
+! run: examples/month.calls looks like text; ./desk run takes text, and ./desk pack makes a message file of it
+END
+    ln -sf "$PWD/run" "$work/link"
+    expect 'run: a link to it' 0 "$work/link" examples/kind.msg <<END
+1 0
+2 0
+F 33 29
+END
+    without_toolchain
+}
+
+# A copy where there is no rt: without a program, and with one that is older than its sources.
+without_toolchain() {
+    copy=$work/copy
+    rm -rf "$copy"
+    mkdir -p "$copy/bin" "$copy/crates" "$copy/tools" "$copy/target/bin"
+    cp -R run crates.txt examples toolchain.txt "$copy"
+    cp tools/build.sh "$copy/tools"
+    for tool in bash cat dirname find head mkdir readlink rm tr wc; do ln -s "$(command -v "$tool")" "$copy/bin/$tool"; done
+    expect 'run: no toolchain' 2 env PATH="$copy/bin" "$copy/run" <<END
 ! run: missing: rt (the Rattle toolchain: compiler and prover). Install the Rattle kit and put its bin folder on the PATH.
 END
-}
-
-# ---- examples/message.py
-
-# unpackable COMPLAINT LINE: a line that cannot be packed, below one that can.
-unpackable() {
-    printf '%s\n%s\n' "settle run=1 day=31  # fine" "$2" >"$work/bad.calls"
-    expect "pack: $1" 1 message pack "$work/bad.calls" <<END
-! message.py: $work/bad.calls: line 2: $1
+    cp target/bin/emorizugu "$copy/target/bin"
+    touch -d '2001-01-01' "$copy/target/bin/emorizugu"
+    expect 'run: no toolchain, and a program that is old' 0 env PATH="$copy/bin" "$copy/run" "$copy/examples/kind.msg" <<END
+1 0
+2 0
+F 33 29
+! run: runs the program as it was built: its sources are newer, and there is no toolchain on the PATH
 END
-}
-
-text_refused() {
-    unpackable "there is no call 'show'; calls are open, activate, deactivate, submit, notice, assign, settle" 'show run=1 group=1'
-    unpackable 'settle lacks day' 'settle run=1'
-    unpackable 'open lacks 2' "$(echo "$OPEN" | sed 's/ 2=2 others=3//') $(for a in 3 4 5 6 7 8 9 10 11 12 13 14 15 16; do printf ' %s=3' $a; done)"
-    unpackable 'settle has no field point' 'settle run=1 day=3 point=4'
-    unpackable 'run stands twice' 'settle run=1 run=1 day=3'
-    unpackable "a field is written name=number: 'day'" 'settle run=1 day'
-    unpackable "day is no whole number: '3.5'" 'settle run=1 day=3.5'
-    unpackable 'day is outside 0 to 9223372036854775807, what a file can carry: -1' 'settle run=1 day=-1'
-    unpackable 'day is outside 0 to 9223372036854775807, what a file can carry: 9223372036854775808' 'settle run=1 day=9223372036854775808'
-    unpackable 'an energy is outside -4611686018427387904 to 4611686018427387903, what a file can carry: 4611686018427387904' \
-        'submit point=1 version=1 day=2 energies=1,4611686018427387904'
-    unpackable '2981 energies, and a file carries at most 2980' "submit point=1 version=1 day=2 energies=$(repeat 312c 2980 | tr -d '\n')1"
-}
-
-text_there_and_back() {
-    message pack examples/month.calls >"$work/month.msg"
-    if cmp -s "$work/month.msg" examples/month.msg; then pass 'pack of month.calls is month.msg'; else fail 'pack of month.calls is month.msg'; fi
-    pack edges.msg <<END
-open quarters=9223372036854775807 first=0 clearing=127 correction=128 T=16383 others=16384
-submit point=1 version=2 day=3 energies=4611686018427387903,-4611686018427387904,0,-1,63,64,-64,-65
-submit point=1 version=2 day=3 energies=none
-deactivate point=1 day=3
-notice point=1 version=2 verdict=0 day=3
-assign area=0 group=64 day=3
-settle run=2 day=400
-END
-    for file in examples/example.msg examples/month.msg examples/empty.msg "$work/edges.msg"; do
-        if message print "$file" >"$work/text" && message pack "$work/text" >"$work/again" && cmp -s "$work/again" "$file"; then
-            pass "pack of print of ${file##*/}"
-        else
-            fail "pack of print of ${file##*/}"
-        fi
-    done
-    opened='open quarters=1 first=10 clearing=30 correction=150 T=4 1=1 2=2'
-    for area in 3 4 5 6 7 8 9 10 11 12 13 14 15 16; do opened="$opened $area=3"; done
-    expect 'print of a damaged file' 1 message print examples/count.msg <<END
-$opened  # offset 0
-activate point=1 kind=1 area=1 partner=0 day=0  # offset 23
-# refused with 34 at offset 29: a submission counts more than 2980 energies
-END
-    expect 'print of a file that is not there' 2 message print "$work/none.msg" <<END
-! message.py: $work/none.msg: No such file or directory
+    # Another toolchain than the one that the proofs were checked with.
+    printf '#!/bin/sh\necho another\n' >"$copy/bin/rt"
+    chmod +x "$copy/bin/rt"
+    echo 'the one' >"$copy/toolchain.txt"
+    touch -d '2001-01-01' "$copy/target/bin/emorizugu"
+    ln -s "$(command -v touch)" "$copy/bin/touch"
+    expect 'run: another toolchain' 0 env PATH="$copy/bin" "$copy/run" "$copy/examples/kind.msg" <<END
+1 0
+2 0
+F 33 29
+! run: the toolchain on the PATH is 'another', and the proofs were checked with 'the one' (toolchain.txt)
+! run: building the desk program; what it stands on is proved first, which takes some minutes
 END
 }
 
@@ -387,7 +384,5 @@ else
     fail 'the program is built'
     tail -n 20 "$work/log" | cut -c 1-300
 fi
-text_refused
-text_there_and_back
 echo "$passed passed, $failed failed"
 [ "$failed" -eq 0 ]

@@ -1,0 +1,430 @@
+#!/usr/bin/env bash
+# Tests of ./desk: a clerk's mistakes with the words for them, text and message files, lists and their forms, the page, streams and terminals,
+# a month of 2,976 quarter hours; the table of causes against the header and the library.
+# Prints a line for each test and, as its very last line, 'N passed, M failed'; the exit status is 0 where M is 0.
+# Writes under target/ only. Builds the program first where it is missing or old.
+set -u
+cd "$(dirname "$0")/.." || exit 2
+work=$PWD/target/tests/desk
+passed=0
+failed=0
+
+pass() {
+    passed=$((passed + 1))
+    echo "ok    $1"
+}
+
+fail() {
+    failed=$((failed + 1))
+    echo "FAIL  $1"
+    [ -z "${2:-}" ] || head -n 20 "$2" | cut -c 1-300
+}
+
+# expect NAME STATUS COMMAND..: what is wanted on standard output stands on standard input; a line after '! ' is wanted on standard error.
+expect() {
+    local name=$1 wanted=$2 status
+    shift 2
+    cat >"$work/wanted"
+    echo "exit status $wanted" >>"$work/wanted"
+    "$@" >"$work/out" 2>"$work/err" </dev/null
+    status=$?
+    {
+        cat "$work/out"
+        sed 's/^/! /' "$work/err"
+        echo "exit status $status"
+    } >"$work/written"
+    if diff "$work/wanted" "$work/written" >"$work/log"; then pass "$name"; else fail "$name" "$work/log"; fi
+}
+
+# has NAME STATUS PATTERN COMMAND..: what the command writes, on both streams, has a line that matches.
+has() {
+    local name=$1 wanted=$2 pattern=$3 status
+    shift 3
+    "$@" >"$work/out" 2>&1 </dev/null
+    status=$?
+    if [ "$status" -eq "$wanted" ] && grep -aqE -- "$pattern" "$work/out"; then
+        pass "$name"
+    else
+        echo "exit status $status" >>"$work/out"
+        fail "$name" "$work/out"
+    fi
+}
+
+# holds NAME COMMAND..: the command ends with 0.
+holds() {
+    local name=$1
+    shift
+    if "$@" >"$work/out" 2>&1; then pass "$name"; else fail "$name" "$work/out"; fi
+}
+
+# text NAME: the text on standard input as a file; its path.
+text() {
+    cat >"$work/$1"
+    echo "$work/$1"
+}
+
+OPEN='open quarters=2 first=10 clearing=30 correction=150 T=4 1=1 2=2 others=3'
+
+# ---- refusals in words
+
+# refusal WORDS MEND LINE..: behind an opening and the lines, the last one is refused so.
+refusal() {
+    local why=$1 mend=$2 lines
+    shift 2
+    { echo "$OPEN" && printf '%s\n' "$@"; } >"$work/one.calls"
+    lines=$(($# + 1))
+    ./desk run "$work/one.calls" >"$work/out" 2>&1
+    if [ $? -eq 1 ] && grep -qxF "line $lines, call $lines: $why" "$work/out" && grep -qxF "    to mend it: $mend" "$work/out"; then
+        pass "refused: $why"
+    else
+        fail "refused: $why" "$work/out"
+    fi
+}
+
+refusals() {
+    local active='activate point=1 kind=exchange area=1 partner=outside day=0' sent='submit point=1 version=2 day=2 energies=1,2'
+    refusal "submit point 4 version 2: refused, 5: day 5 lies before the desk's day 40, which line 2 set" \
+        'give it day 40 or later; if day 40 is a mistake, correct line 2' \
+        'activate point=4 kind=group-sum area=1 partner=5 day=40' 'submit point=4 version=2 day=5 energies=1,2'
+    refusal 'activate point 300: refused, 3: point 300 is not 1 to 256; day 500 is not 0 to 400' 'correct what is named' \
+        'activate point=300 kind=1 area=1 partner=0 day=500'
+    refusal 'activate point 1: refused, 3: kind 2 with area 0 and partner 7 do not go together: a group sum takes an area of 1 to 16 and as partner a group of 1 to 64' \
+        "put kind, area and partner together as README's table of series has them" 'activate point=1 kind=2 area=0 partner=7 day=0'
+    refusal 'submit point 1 version 2: refused, 3: the series has 1 energy, and the month 2 quarter hours (line 1)' 'correct what is named' \
+        "$active" 'submit point=1 version=2 day=2 energies=5'
+    refusal 'submit point 1 version 2: refused, 3: the energy of quarter hour 2, -1000000000001, is beyond 1000000000000 watt-hours' \
+        'correct what is named' "$active" 'submit point=1 version=2 day=2 energies=5,-1000000000001'
+    refusal 'open quarters 2: refused, 6: line 1 opened the desk' 'take the second opening away; a file is one month' "$OPEN"
+    refusal 'submit point 1 version 2: refused, 11: day 151 lies behind the correction deadline, day 150 (line 1)' \
+        'the last day for it is 150; correct the day, or leave the call out' "$active" 'submit point=1 version=2 day=151 energies=1,2'
+    refusal 'assign area T group 5: refused, 26: day 31 lies behind the clearing deadline, day 30 (line 1)' \
+        'the last day for it is 30; correct the day, or leave the call out' 'assign area=T group=5 day=31'
+    refusal 'activate point 1: refused, 21: point 1 is active since line 2' 'take a free point, or deactivate it first' "$active" \
+        'activate point=1 kind=1 area=2 partner=0 day=0'
+    refusal 'activate point 2: refused, 22: point 1 has the same kind, area and partner (line 2)' \
+        'use point 1, or correct kind, area or partner' "$active" 'activate point=2 kind=1 area=1 partner=0 day=0'
+    refusal 'submit point 7 version 1: refused, 12: point 7 is not active: no call in front activates it' \
+        'put `activate point=7 ..` in front, or correct the point' 'submit point=7 version=1 day=2 energies=1,2'
+    refusal 'submit point 2 version 1: refused, 12: point 2 is not active: its activation in line 3 was refused, 22' 'correct line 3' "$active" \
+        'activate point=2 kind=1 area=1 partner=0 day=0' 'submit point=2 version=1 day=2 energies=1,2'
+    refusal 'notice point 1 version 1: refused, 12: point 1 is free: line 3 deactivated it' 'activate it again, or correct the point' "$active" \
+        'deactivate point=1 day=1' 'notice point=1 version=1 verdict=negative day=2'
+    refusal 'deactivate point 1: refused, 23: point 1 has version 2 (line 3)' 'nothing: a point with series is kept for the month' "$active" "$sent" \
+        'deactivate point=1 day=3'
+    refusal 'submit point 1 version 1: refused, 13: day 1 lies less than two days after day 0, on which line 2 activated point 1' \
+        'submit on day 2 or later' "$active" 'submit point=1 version=1 day=1 energies=1,2'
+    refusal 'submit point 1 version 2: refused, 14: point 1 has version 2 already (line 3)' 'take version 3 or higher, or leave the call out' \
+        "$active" "$sent" "$sent"
+    refusal 'submit point 1 version 1: refused, 15: version 1 lies below version 2, which line 3 submitted' 'take version 3 or higher' "$active" \
+        "$sent" 'submit point=1 version=1 day=2 energies=1,2'
+    refusal 'notice point 1 version 3: refused, 24: point 1 has no version 3: its highest is 2, of line 3' 'name a version that was submitted' \
+        "$active" "$sent" 'notice point=1 version=3 verdict=positive day=12'
+    refusal 'notice point 1 version 2: refused, 25: version 2 is no check data: line 3 submitted it on day 2, and the first delivery lasts to day 10' \
+        'nothing: it counts without a notice' "$active" "$sent" 'notice point=1 version=2 verdict=positive day=12'
+    refusal 'settle run 1: refused, 27: day 30 does not lie behind the clearing deadline, day 30 (line 1)' 'settle run 1 on day 31 or later' \
+        'settle run=1 day=30'
+    refusal 'settle run 1: refused, 28: line 2 settled run 1' 'nothing: it is settled once' 'settle run=settlement day=31' 'settle run=1 day=32'
+    refusal 'settle run 2: refused, 29: run 1 is not settled yet' 'put `settle run=1` in front of it' 'settle run=correction day=151'
+}
+
+# One typed day, 40 for 4, refuses what follows; the desk says where it comes from.
+typed_day() {
+    local file
+    file=$(sed 's/^activate point=6 \(.*\) day=0/activate point=6 \1 day=40/' examples/month.calls | text typed.calls)
+    ./desk run "$file" >"$work/out" 2>&1
+    [ $? -eq 1 ] && grep -qxF '6 of these come from line 19: activate point 6; look there first' "$work/out" &&
+        grep -qxF '13 calls, 6 refused; day 40; no run settled; 2 quarter hours' "$work/out" &&
+        grep -qxF 'the first refused: line 22, call 8' "$work/out"
+}
+
+not_open() {
+    local file
+    file=$(printf 'open quarters=0 first=3 clearing=2 correction=9 others=65\nsettle run=1 day=31\n' | text closed.calls)
+    has 'an opening that is refused' 1 'refused, 4: quarters 0 is not 1 to 2980; deadlines 3, 2, 9 do not rise from 1 to 399; the delta group of T is 65' \
+        ./desk run "$file"
+    has 'a desk that is not open' 1 'line 2, call 2: settle run 1: refused, 1: the desk is not open: the opening of line 1 was refused, 4' \
+        ./desk run "$file"
+    has 'no opening at all' 1 'refused, 1: the desk is not open: no opening stands in front' ./desk run "$(echo 'settle run=1 day=31' | text none.calls)"
+}
+
+# ---- the sample month, as text and as a message file
+
+sample() {
+    expect 'run: the sample month' 0 ./desk run examples/month.calls <<END
+13 calls, none refused; day 2; no run settled; 2 quarter hours
+
+group               run 1, Wh               run 2, Wh          difference, Wh
+    1                  18 000                  18 000                       0
+    2                  50 100                  50 100                       0
+    4                     200                     200                       0
+    5                  95 000                  95 000                       0
+    6                  16 700                  16 700                       0
+END
+    holds 'run: text and message file give the same' cmp <(./desk run examples/month.calls) <(./desk run examples/month.msg)
+    holds 'run: a pipe and a named pipe' sh -c "rm -f '$work/pipe' && mkfifo '$work/pipe' && (cat examples/month.msg >'$work/pipe' &) &&
+        ./desk run '$work/pipe' >'$work/a' && cat examples/month.calls | ./desk run - >'$work/b' && cmp '$work/a' '$work/b'"
+    has 'run: a message file names calls and offsets' 1 '^call 4, offset 36: submit point 1 version 7: refused, 14: point 1 has version 7 already \(call 3\)$' \
+        ./desk run examples/example.msg
+    has 'run: a file damaged behind calls' 1 'damaged behind call 3, at offset 36: refused, 31: the file ends inside a call' ./desk run examples/cut.msg
+    has 'run: a file damaged at its start' 2 'damaged behind call 0, at offset 0: refused, 32' ./desk run examples/longer.msg
+    has 'run: an empty file' 2 'examples/empty.msg: is empty: it has no calls$' ./desk run examples/empty.msg
+    expect 'figures: one group as csv' 0 ./desk figures examples/month.calls --run 1 --group 4 --csv <<END
+run,quarter,group,figure
+1,1,4,300
+1,2,4,-100
+END
+    expect 'log as json, of a month with a refused call' 1 ./desk log examples/example.msg --json <<END
+[
+{"row":1,"day":2,"point":1,"run":1,"version":7}
+]
+! desk: examples/example.msg: 1 of 4 calls were refused; \`desk run\` says which and why
+END
+}
+
+# Both runs, changes of selections, statuses.
+selections() {
+    local file
+    file=$(text two.calls <<END
+$OPEN
+activate point=2 kind=group-sum area=1 partner=5 day=0
+activate point=1 kind=exchange area=1 partner=outside day=0
+submit point=2 version=10 day=2 energies=1,2
+submit point=1 version=5 day=2 energies=10,20
+submit point=1 version=7 day=9 energies=11,21
+submit point=2 version=11 day=11 energies=3,4
+notice point=2 version=11 verdict=positive day=31
+settle run=1 day=31
+END
+    )
+    expect 'points: one order, statuses, what counts' 0 ./desk points "$file" <<END
+point  kind            area  partner  since         version  status                      run 1  run 2
+    1  exchange           1        0      0               5  settlement data             no     no
+    1  exchange           1        0      0               7  settled                     yes    yes
+    2  group-sum          1        5      0              10  settled                     yes    no
+    2  group-sum          1        5      0              11  correction settlement data  no     yes
+END
+    expect 'points as csv' 0 ./desk points "$file" --csv <<END
+point,kind,area,partner,since,version,status,run_1,run_2
+1,exchange,1,0,0,5,settlement data,no,no
+1,exchange,1,0,0,7,settled,yes,yes
+2,group-sum,1,5,0,10,settled,yes,no
+2,group-sum,1,5,0,11,correction settlement data,no,yes
+END
+    expect 'run: changes of selections stand in the summary' 0 ./desk run "$file" <<END
+9 calls, none refused; day 31; run 1 settled; 2 quarter hours
+
+2 selections changed
+    day 9: point 1, run 1: version 7 in the place of 5
+    day 31: point 2, run 2: version 11 in the place of 10, which run 1 selects
+
+group               run 1, Wh               run 2, Wh          difference, Wh
+    1                      29                      25                      -4
+    5                       3                       7                       4
+END
+    holds 'page: changes of selections' grep -q '<li>day 31: point 2, run 2: version 11 in the place of 10, which run 1 selects</li>' <(./desk page "$file")
+}
+
+# ---- text
+
+# bad WORDS LINE: a line that cannot be packed, between two that can; nothing is written.
+bad() {
+    printf '%s\n%s\n%s\n' 'settle run=1 day=31  # fine' "$2" 'settle run=1 day=32' >"$work/bad.calls"
+    rm -f "$work/bad.msg"
+    expect "pack: $1" 2 ./desk pack "$work/bad.calls" -o "$work/bad.msg" <<END
+! desk: $work/bad.calls: line 2: $1
+END
+    [ ! -e "$work/bad.msg" ] || fail "pack wrote all the same: $1"
+}
+
+bad_lines() {
+    local numbers
+    bad "there is no call 'show'; calls are open, activate, deactivate, submit, notice, assign, settle" 'show run=1 group=1'
+    bad 'settle lacks day' 'settle run=1'
+    bad "settle has no field 'point'; its fields are run, day" 'settle run=1 day=3 point=4'
+    bad 'run stands twice' 'settle run=1 run=1 day=3'
+    bad "a field is written name=number: 'day'" 'settle run=1 day'
+    bad "day is no whole number: '3.5'" 'settle run=1 day=3.5'
+    bad 'day is outside 0 to 9223372036854775807, what a file can carry: '"'-1'" 'settle run=1 day=-1'
+    bad "day is outside 0 to 9223372036854775807, what a file can carry: '99999999999999999999999999999999..'" "settle run=1 day=$(printf '%05000d' 0 | tr 0 9)"
+    bad "kind is no number and no name: 'exchang'; names are exchange, group-sum, area-sum, operator-sum, delta-transfer" \
+        'activate point=1 kind=exchang area=1 partner=0 day=0'
+    bad "an energy is outside -4611686018427387904 to 4611686018427387903, what a file can carry: '4611686018427387904'" \
+        'submit point=1 version=1 day=2 energies=1,4611686018427387904'
+    bad "an energy has its digits in groups: '1.000.000'; write them together" 'submit point=1 version=1 day=2 energies=1.000.000'
+    bad "an energy has zeros in front: '000'; write a number without them, and its digits together" 'submit point=1 version=1 day=2 energies=100,000'
+    bad "an energy in kWh is digits with up to three decimals behind a point: '0.1234'" 'submit point=1 version=1 day=2 unit=kWh energies=0.1234'
+    bad "unit is Wh or kWh: 'MWh'" 'submit point=1 version=1 day=2 unit=MWh energies=1'
+    numbers=$(seq -s, 2981)
+    bad '2981 energies, and a file carries at most 2980' "submit point=1 version=1 day=2 energies=$numbers"
+    printf 'settle run=1\nshow\n# fine\nsettle day=1\n' >"$work/bad.calls"
+    expect 'run: every bad line at once, and nothing is run' 2 ./desk run "$work/bad.calls" <<END
+! desk: $work/bad.calls: line 1: settle lacks day
+! desk: $work/bad.calls: line 2: there is no call 'show'; calls are open, activate, deactivate, submit, notice, assign, settle
+! desk: $work/bad.calls: line 4: settle lacks run
+END
+    printf 'settle run=1 day=31 # \377\000 caf\351\n' >"$work/any.calls"
+    holds 'pack: a comment of any bytes' cmp <(./desk pack "$work/any.calls") <(printf '\7\1\37')
+    has 'pack: a byte order mark' 2 'begins with a byte order mark' ./desk pack <(printf '\357\273\277settle run=1 day=31\n')
+    has 'pack: carriage returns' 2 'line 1: has a carriage return, as 2 lines have; line ends are line feeds alone' \
+        ./desk pack <(printf 'settle run=1 day=31\r\nsettle run=1 day=31\r\n')
+    has 'run: UTF-16' 2 'is text in UTF-16' ./desk run <(printf '\377\376s\000')
+    has 'pack: a message file' 2 'is no text' ./desk pack examples/month.msg
+}
+
+series_files() {
+    local file
+    printf '100\n-200\n' >"$work/p.csv"
+    printf 'time;energy;"other"\n00:00;0.1;7\n00:15;-2.5;8\n' >"$work/q.csv"
+    file=$(text series.calls <<END
+submit point=1 version=1 day=2 energies=@p.csv
+submit point=1 version=1 day=2 unit=kWh energies=@q.csv:energy
+submit point=1 version=1 day=2 energies=@q.csv:other
+END
+    )
+    expect 'print: series of files' 0 ./desk print "$file" <<END
+submit point=1 version=1 day=2 energies=100,-200  # offset 0
+submit point=1 version=1 day=2 energies=100,-2500  # offset 9
+submit point=1 version=1 day=2 energies=7,8  # offset 18
+END
+    printf '100\n2.5\n' >"$work/r.csv"
+    file=$(printf '%s\n' 'submit point=1 version=1 day=2 energies=@r.csv' 'submit point=1 version=1 day=2 energies=@q.csv:power' \
+        'submit point=1 version=1 day=2 energies=@none.csv' | text wrong.calls)
+    expect 'pack: series that do not fit' 2 ./desk pack "$file" -o "$work/wrong.msg" <<END
+! desk: $file: line 1: r.csv: line 2: an energy is no whole number: '2.5'
+! desk: $file: line 2: q.csv: line 1: has no column 'power'; its columns are time, energy, other
+! desk: $file: line 3: none.csv: no such file
+END
+}
+
+there_and_back() {
+    local file
+    ./desk pack - -o "$work/edges.msg" <<END
+open quarters=9223372036854775807 first=0 clearing=127 correction=128 T=16383 others=16384
+submit point=1 version=2 day=3 energies=4611686018427387903,-4611686018427387904,0,-1,63,64,-64,-65
+submit point=1 version=2 day=3 energies=none
+deactivate point=1 day=3
+notice point=1 version=2 verdict=negative day=3
+assign area=T group=64 day=3
+settle run=2 day=400
+END
+    for file in examples/example.msg examples/month.msg examples/empty.msg "$work/edges.msg"; do
+        ./desk print "$file" >"$work/text" 2>/dev/null
+        holds "pack of print of ${file##*/}" sh -c "./desk pack '$work/text' 2>/dev/null | cmp - '$file'"
+    done
+    holds 'pack of month.calls is month.msg' sh -c './desk pack examples/month.calls | cmp - examples/month.msg'
+    has 'print of a damaged file' 1 '^# refused with 34 at offset 29: a submission counts more than 2,980 energies' ./desk print examples/count.msg
+}
+
+# ---- streams
+
+streams() {
+    expect 'no such file' 2 ./desk run "$work/nothing.msg" <<END
+! desk: $work/nothing.msg: no such file
+END
+    expect 'a folder' 2 ./desk run examples <<END
+! desk: examples: is a folder
+END
+    expect 'standard output closed' 2 sh -c './desk run examples/month.calls >&-' <<END
+! desk: standard output is closed
+END
+    expect 'standard input closed' 2 sh -c './desk run - <&-' <<END
+! desk: standard input is closed
+END
+    expect 'both closed, standard error too' 2 sh -c './desk run - <&- >&- 2>&-' </dev/null
+    expect 'a full disk' 2 sh -c './desk figures examples/month.calls >/dev/full' <<END
+! desk: standard output cannot be written: no space left
+END
+    expect 'a full disk, by name' 2 ./desk pack examples/month.calls -o /dev/full <<END
+! desk: /dev/full cannot be written: no space left
+END
+    has 'an output in no folder' 2 'cannot be written: no such file' ./desk pack examples/month.calls -o "$work/none/x.msg"
+    holds 'a reader that stops early' sh -c "./desk figures examples/month.calls --all | head -n 1 | grep -q run"
+    has 'pack to a terminal' 2 'a message file is bytes' script -qec './desk pack examples/month.calls' /dev/null
+    has 'colour on a terminal' 0 $'\033' script -qec 'TERM=xterm ./desk run examples/month.calls' /dev/null
+    holds 'no colour in a pipe' sh -c "! ./desk run examples/month.calls | grep -q '$(printf '\033')'"
+    holds 'no colour with NO_COLOR' sh -c "! NO_COLOR=1 script -qec './desk run examples/month.calls' /dev/null | grep -q '$(printf '\033')'"
+}
+
+# ---- help
+
+help() {
+    local command
+    for command in run figures log points page pack print causes; do
+        has "help of $command" 0 "^Example: desk $command" ./desk "$command" --help
+    done
+    has 'help' 0 '^Exit status: 0 all calls accepted' ./desk --help
+    has 'version' 0 '^desk [0-9.]+, library 2$' ./desk --version
+    has 'no command' 2 'desk run' ./desk
+    has 'a wrong command' 2 "there is no command 'runn'; commands are run, figures" ./desk runn
+    has 'a wrong option' 2 'desk log has no option --group' ./desk log x --group 3
+    has 'a group out of range' 2 "--group takes a number from 1 to 64: '65'" ./desk figures x --group 65
+    if command -v man >/dev/null 2>&1; then
+        ./desk --man >"$work/desk.1"
+        has 'man page' 0 'desk figures FILE' man -l "$work/desk.1"
+    fi
+    ln -sf "$PWD/desk" "$work/link"
+    has 'a link to desk' 0 '^13 calls, none refused' "$work/link" run examples/month.calls
+}
+
+# ---- causes
+
+# Number and name, one a line, in the order of numbers: by docs/CAUSES.md, `desk causes`, the header, and the library's definitions.
+causes() {
+    awk -F'|' '$2 ~ /^ [0-9]+ $/ { gsub(/ /, "", $2); gsub(/ /, "", $3); print $2, $3 }' docs/CAUSES.md | sort -n >"$work/page"
+    ./desk causes --csv | awk -F, 'NR > 1 { print $1, $2 }' | sort -n >"$work/program"
+    awk '/Answers: accepted/ { on = 1 } /Ranges/ { on = 0 } on && $1 == "#define" && $3 > 0 { sub("EMORIZUGU_", "", $2); print $3, $2 }' \
+        include/emorizugu.h | sort -n >"$work/header"
+    cat crates/model/specs/Call.antt crates/message/specs/Cause.antt |
+        sed -n 's/^causeNumber \([A-Za-z]*\) = \([0-9]*\)$/\2 \1/p' |
+        sed 's/\([a-z]\)\([A-Z]\)/\1_\2/g' | tr '[:lower:]' '[:upper:]' | sort -n >"$work/library"
+    for one in program header library; do
+        holds "causes: docs/CAUSES.md and the $one" diff "$work/page" "$work/$one"
+    done
+    has 'one cause' 0 'to mend: put the calls in the order of their days' ./desk causes 5
+    has 'no such cause' 2 "there is no cause '7'" ./desk causes 7
+}
+
+# ---- a month of 2,976 quarter hours, 256 points and 512 versions
+
+month() {
+    local start end
+    python3 tests/month.py 2976 >"$work/large.calls"
+    holds 'a large month is run' sh -c "./desk run '$work/large.calls' >'$work/large'"
+    holds 'its summary' grep -qx '942 calls, none refused; day 151; runs 1 and 2 settled; 2976 quarter hours' "$work/large"
+    ./desk pack "$work/large.calls" -o "$work/large.msg"
+    holds 'the same as a message file' sh -c "./desk run '$work/large.msg' | sed 's/large.msg/large.calls/' | cmp - '$work/large'"
+    ./desk figures "$work/large.msg" --all --csv >"$work/large.csv"
+    holds 'all figures' test "$(wc -l <"$work/large.csv")" -eq $((2 * 64 * 2976 + 1))
+    start=$(date +%s%N)
+    ./desk page "$work/large.msg" -o "$work/large.html"
+    end=$(date +%s%N)
+    holds "the page in $(((end - start) / 1000000)) ms" test $(((end - start) / 1000000)) -lt 1000
+    holds 'the page below 5 MB' test "$(wc -c <"$work/large.html")" -lt 5000000
+    holds "the page's numbers are those of figures" python3 tests/page.py "$work/large.html" "$work/large.csv"
+    holds 'the page has no outside parts' sh -c "! grep -qE 'https?:|src=|@import|url\(' '$work/large.html'"
+    ./desk page examples/month.calls >"$work/small.html"
+    ./desk figures examples/month.calls --all --csv >"$work/small.csv"
+    holds "the sample month's page" python3 tests/page.py "$work/small.html" "$work/small.csv"
+}
+
+mkdir -p "$work" || exit 2
+# The first run builds the program; what that says is no part of a test.
+if ./desk --version >"$work/log" 2>&1; then
+    pass 'the program is built'
+    refusals
+    holds 'one typed day' typed_day
+    not_open
+    sample
+    selections
+    bad_lines
+    series_files
+    there_and_back
+    streams
+    help
+    causes
+    month
+else
+    fail 'the program is built' "$work/log"
+fi
+echo "$passed passed, $failed failed"
+[ "$failed" -eq 0 ]

@@ -1,0 +1,63 @@
+/* Every entry with NULL where the length is 0, and a replay on a thread of EMORIZUGU_STACK bytes. */
+#include <pthread.h>
+#include <stdio.h>
+#include <stdlib.h>
+
+#include "emorizugu.h"
+
+static struct emorizugu_lent r;
+static uint8_t file[4096];
+
+static int wrong(const char *what) {
+    fprintf(stderr, "entries: %s\n", what);
+    return 1;
+}
+
+static void *run(void *refusal) {
+    *(uint64_t *)refusal = emorizugu_run(&r);
+    return NULL;
+}
+
+static int nothing(void) {
+    static struct emorizugu_lent none;
+    uint64_t size = 7;
+    if (emorizugu_run(&none) != 0 || none.report[EMORIZUGU_ANSWERED] != 0)
+        return wrong("a replay of nothing");
+    if (emorizugu_replay(NULL, 0, NULL, 0, NULL, 0, NULL, 0, NULL, 0, NULL, 0, NULL, 0, NULL, 0, NULL, 0) != 2)
+        return wrong("a replay with no report");
+    if (emorizugu_file_refusal(NULL, 0) != 0 || emorizugu_file_offset(NULL, 0) != 0)
+        return wrong("an empty file");
+    if (emorizugu_figure_refusal(NULL, 0, 1, 1, 1, 1) != 2 || emorizugu_figure(NULL, 0, 1, 1, 1, 1) != 0)
+        return wrong("a figure of no book");
+    if (emorizugu_sum(NULL, 0, 1, 1, 0) != 0 || emorizugu_difference(NULL, 0, 1, 0) != 0)
+        return wrong("a sum of no book");
+    if (emorizugu_read(NULL, 0, 0, NULL, 0, NULL, 0) != 2)
+        return wrong("a call read to nowhere");
+    if (emorizugu_write(7, NULL, 0, NULL, 0, NULL, 0, &size, 1) != 35 || size != 0)
+        return wrong("a call written to nowhere");
+    return emorizugu_version() == EMORIZUGU_VERSION ? 0 : wrong("the version");
+}
+
+static int small_stack(const char *name) {
+    FILE *in = fopen(name, "rb");
+    pthread_attr_t attributes;
+    pthread_t thread;
+    uint64_t refusal = 1;
+    if (in == NULL)
+        return wrong("no file");
+    r.file = file, r.length = fread(file, 1, sizeof file, in);
+    r.values_length = EMORIZUGU_VALUES_LENGTH(8, 16), r.values = calloc(r.values_length, 8);
+    r.book_length = EMORIZUGU_BOOK_LENGTH(8), r.book = calloc(r.book_length, 8);
+    r.log_length = EMORIZUGU_LOG_LENGTH(16), r.log = calloc(r.log_length, 8);
+    r.series_length = 8, r.series = calloc(8, 8);
+    r.answers_length = EMORIZUGU_ANSWERS_LENGTH(r.length), r.answers = calloc(r.answers_length, 8);
+    pthread_attr_init(&attributes);
+    pthread_attr_setstacksize(&attributes, EMORIZUGU_STACK);
+    if (pthread_create(&thread, &attributes, run, &refusal) != 0 || pthread_join(thread, NULL) != 0)
+        return wrong("no thread");
+    return refusal == 0 && r.report[EMORIZUGU_REFUSED] == 0 ? 0 : wrong("a replay on a small stack");
+}
+
+int main(int argc, char **argv) {
+    return argc == 2 && nothing() == 0 && small_stack(argv[1]) == 0 ? 0 : 1;
+}
