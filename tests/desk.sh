@@ -89,7 +89,7 @@ refusals() {
     refusal 'activate point 300: refused, 3: point 300 is not 1 to 256; day 500 is not 0 to 400' 'correct what is named' \
         'activate point=300 kind=1 area=1 partner=0 day=500'
     refusal 'activate point 1: refused, 3: kind 2 with area 0 and partner 7 do not go together: a group sum takes an area of 1 to 16 and as partner a group of 1 to 64' \
-        "put kind, area and partner together as README's table of series has them" 'activate point=1 kind=2 area=0 partner=7 day=0'
+        "correct kind, area or partner" 'activate point=1 kind=2 area=0 partner=7 day=0'
     refusal 'submit point 1 version 2: refused, 3: the series has 1 energy, and the month 2 quarter hours (line 1)' 'correct what is named' \
         "$active" 'submit point=1 version=2 day=2 energies=5'
     refusal 'submit point 1 version 2: refused, 3: the energy of quarter hour 2, -1000000000001, is beyond 1000000000000 watt-hours' \

@@ -351,7 +351,7 @@ impl<'a> Before<'a> {
         if call.kind == ACTIVATE && wrong.is_empty() {
             return (
                 unfit(call),
-                "put kind, area and partner together as README's table of series has them"
+                "correct kind, area or partner"
                     .to_string(),
                 None,
             );
