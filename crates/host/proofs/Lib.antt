@@ -1,3 +1,4 @@
+pub mod Exact
 pub mod GivenBack
 pub mod Months
 pub mod Places
