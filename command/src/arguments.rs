@@ -49,7 +49,7 @@ pub const COMMANDS: [(&str, Command, &[&str]); 8] = [
         &["--csv", "--json", "--run", "--group", "--all"],
     ),
     ("log", Command::Log, &["--csv", "--json", "--run"]),
-    ("points", Command::Points, &["--csv", "--json"]),
+    ("points", Command::Points, &["--csv", "--json", "--run"]),
     ("page", Command::Page, &["-o"]),
     ("pack", Command::Pack, &["-o"]),
     ("print", Command::Print, &["-o"]),

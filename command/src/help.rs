@@ -39,9 +39,10 @@ const HELPS: [Help; 8] = [
     },
     Help {
         name: "points",
-        usage: "desk points FILE [--csv | --json]",
+        usage: "desk points FILE [--run N] [--csv | --json]",
         short: "each point's series with its versions, their status, and which of them count",
-        body: "Active points by number, a point's versions by version; a point without a version has one row.\n\
+        body: "Active points by number, a point's versions by version; a point without a version has one row;\n\
+            with --run only the versions that count in that run.\n\
             Columns: point, kind, area, partner, since (the day of its activation), version, status, run_1 and run_2\n\
             (yes where the version counts in that run, else no).",
         example: "desk points examples/month.calls",

@@ -113,16 +113,18 @@ pub fn points(wanted: &Wanted) -> Result<i32, Failure> {
     let ran = month::run(&wanted.file)?;
     let mut sheet = Sheet::new(wanted.form, POINTS);
     for point in &ran.replay.points {
-        let mut versions = ran
-            .replay
-            .versions
-            .iter()
-            .filter(|version| version.point == point.number)
-            .peekable();
-        if versions.peek().is_none() {
+        let counts = |version: &&Version| match wanted.run {
+            Some(run) => point.selected[run as usize - 1] == version.version,
+            None => true,
+        };
+        let of_point = |version: &&Version| version.point == point.number;
+        let mut versions = ran.replay.versions.iter().filter(of_point).peekable();
+        if versions.peek().is_none() && wanted.run.is_none() {
             point_row(&mut sheet, point, None);
         }
-        versions.for_each(|version| point_row(&mut sheet, point, Some(version)));
+        versions
+            .filter(counts)
+            .for_each(|version| point_row(&mut sheet, point, Some(version)));
     }
     told(&ran, sheet)
 }

@@ -351,8 +351,7 @@ impl<'a> Before<'a> {
         if call.kind == ACTIVATE && wrong.is_empty() {
             return (
                 unfit(call),
-                "correct kind, area or partner"
-                    .to_string(),
+                "correct kind, area or partner".to_string(),
                 None,
             );
         }
