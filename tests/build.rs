@@ -1,4 +1,4 @@
-//! Links the static libraries `host`, `test_drive` and `test_script`, which `rt staticlib` writes to `target/staticlib`.
+//! Links the static libraries `host` and `test_drive`, which `rt staticlib` writes to `target/staticlib`.
 //! `EMORIZUGU_LIBS` names another folder that has them.
 
 use std::env;
@@ -8,7 +8,7 @@ fn main() {
     let folder = env::var("EMORIZUGU_LIBS").unwrap_or_else(|_| usual.to_string());
     println!("cargo:rerun-if-env-changed=EMORIZUGU_LIBS");
     println!("cargo:rustc-link-search=native={folder}");
-    for name in ["host", "test_drive", "test_script"] {
+    for name in ["host", "test_drive"] {
         println!("cargo:rerun-if-changed={folder}/lib{name}.a");
         println!("cargo:rustc-link-lib=static={name}");
     }

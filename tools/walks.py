@@ -6,8 +6,8 @@
 
     crates/entry/proofs/open/open/Proof.antt
     crates/entry/proofs/apply/apply/Proof.antt
-    crates/test_script/proofs/via/via_open/Proof.antt
-    crates/test_script/proofs/via/via_apply/Proof.antt
+    crates/test_drive/proofs/via/via_open/Proof.antt
+    crates/test_drive/proofs/via/via_apply/Proof.antt
 
 Run it where a function's parameters change. It reads them from the crates' sources; the same sources give the same files. Two forms are known:
 
@@ -26,7 +26,7 @@ from pathlib import Path
 ROOT = Path(__file__).resolve().parent.parent
 ENTRY = 'entry'
 # a function, its crate and its module there
-WALKS = {'open': (ENTRY, 'open'), 'apply': (ENTRY, 'apply'), 'via_open': ('test_script', 'via'), 'via_apply': ('test_script', 'via')}
+WALKS = {'open': (ENTRY, 'open'), 'apply': (ENTRY, 'apply'), 'via_open': ('test_drive', 'via'), 'via_apply': ('test_drive', 'via')}
 
 
 # ---- what the sources say

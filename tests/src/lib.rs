@@ -9,10 +9,10 @@
 //! | `desk`, `worked` | second implementation: the plain desk, and what its list of calls says |
 //! | `replay` | second implementation: a whole file through the plain desk |
 //! | `program` | second implementation: what the desk program prints; and a run of the program |
-//! | `numbers` | the message file's answers as numbers in slices, the form in which `test_drive` gives them |
+//! | `numbers` | the message file's answers as numbers in slices, the form in which `host` gives them |
 //! | `linked` | the functions of the static libraries, each behind a safe function |
 //! | `generator` | message files, calls and books from a seed |
-//! | `script` | calls as numbers in a slice, the form in which `test_script` takes them |
+//! | `script` | calls as numbers in a slice, the form in which `test_drive` takes them |
 //! | `months`, `pick` | months of calls from a seed, and the choice of each call |
 //! | `files` | message files of months, whole and spoiled, and the calls of a file as text |
 //! | `damage` | the fields of the desk's state with their limits |

@@ -1,4 +1,4 @@
-//! The functions of the static libraries `host`, `test_drive` and `test_script`, each behind a safe function. None of
+//! The functions of the static libraries `host` and `test_drive`, each behind a safe function. None of
 //! them asks anything of its caller, so a slice's pointer and length are all that there is to get right.
 
 extern "C" {

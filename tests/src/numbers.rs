@@ -1,4 +1,4 @@
-//! The second implementation's reader and writer in the form of `test_drive`: numbers in slices.
+//! The second implementation's reader and writer in the form of `host`: numbers in slices.
 
 use crate::message::{self, MOST_FIELDS};
 

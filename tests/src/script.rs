@@ -1,4 +1,4 @@
-//! Scripts: calls as numbers in a slice, the form in which `test_script` takes them, and what a run of one gives.
+//! Scripts: calls as numbers in a slice, the form in which `test_drive` takes them, and what a run of one gives.
 
 use crate::call::{Call, Lengths};
 use crate::generator::Random;

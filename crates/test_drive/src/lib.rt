@@ -1,3 +1,22 @@
-// For tests and benchmarks only: the row adder, and damage to the state.
-pub mod damage;
+// For tests and benchmarks only: the row adder, and scripts of calls with damage to the state.
+mod damage;
 mod row;
+mod script;
+mod via;
+
+use state::Desk;
+
+// The desk after a record, and the next place of the output.
+pub struct Ran {
+    pub desk: Desk,
+    pub next: usize,
+}
+
+// The lengths of the buffers, and the next place of the output.
+pub struct Room {
+    pub values: usize,
+    pub book: usize,
+    pub log: usize,
+    pub out: usize,
+    pub next: usize,
+}

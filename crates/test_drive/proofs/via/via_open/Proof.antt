@@ -58,10 +58,10 @@ use Rattle.entry.proofs.open.open as callee
 use Rattle.entry.proofs.open.open.Symbol as callee-def
 use Rattle.entry.proofs.open.open.Symbol.{name as #callee}
 use Rattle.entry.proofs.open.open.Met as callee-thm
-use Rattle.test_script.proofs.via.via_open as here
-use Rattle.test_script.proofs.via.via_open.Key.{name as #here}
-use Rattle.test_script.proofs.via.via_open.Statement as stated
-use Rattle.test_script.proofs.via.via_open.Code as code
+use Rattle.test_drive.proofs.via.via_open as here
+use Rattle.test_drive.proofs.via.via_open.Key.{name as #here}
+use Rattle.test_drive.proofs.via.via_open.Statement as stated
+use Rattle.test_drive.proofs.via.via_open.Code as code
 
 abbrev stayed : Stays (here.ended .signature .params) (here.ended .kept)
 stayed = (said (plain (λ _. Deskᵀ.the-row)), (said (plain (λ _. u64)), (said (plain (λ _. Dayᵀ.the-row)), (said (plain (λ _. Dayᵀ.the-row)), (said (plain (λ _. Dayᵀ.the-row)), (said (plain (λ _. Array u64 17)), (said (shrSliceOf (0 ∷ []) tt (plain (λ _. u64))), (said (mutSliceOf (1 ∷ []) tt (plain (λ _. u64))), (said (shrSliceOf (2 ∷ []) tt (plain (λ _. u64))), tt)))))))))

@@ -3,8 +3,8 @@ use Prim.Native.Nat.{_-_, _≤_}
 use mathlib.Core.Path.{_≡_}
 use lib.ListN.{length}
 use borrow.Author.Needs.{needs}
-use Rattle.test_script.proofs.drive_script.Statement.{statement}
-use Rattle.test_script.proofs.drive_script.Tie as tie
+use Rattle.test_drive.proofs.script.drive_script.Statement.{statement}
+use Rattle.test_drive.proofs.script.drive_script.Tie as tie
 
 abbrev Inv-loop : tie.InvT-loop
 Inv-loop script values₀ book₀ log₀ out₀ desk₀ at₀ next₀ values book log out desk at next =

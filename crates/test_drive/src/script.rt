@@ -1,6 +1,7 @@
-// For tests only: a script of the nine calls on a fresh desk, each with its own lengths of the stores; and damage to the desk's fields.
-mod via;
-
+// A script of the nine calls on a fresh desk, each with its own lengths of the stores; and damage to the desk's fields.
+use crate::Ran;
+use crate::Room;
+use crate::damage::damaged;
 use crate::via::via_apply;
 use crate::via::via_open;
 use amend::copies::copy_row;
@@ -28,7 +29,6 @@ use quantity::Version;
 use state::Desk;
 use state::fresh::fresh_desk;
 use state::statuses;
-use test_drive::damage::damaged;
 use writer::fields::field_at;
 use writer::fields::pad_fields;
 ghost use Prim.Native.Nat.{_≤_};
@@ -184,12 +184,6 @@ fn series_in(record: &[u64]) -> &[u64] {
     &record[8..]
 }
 
-// The desk after a record, and the next place of the output.
-struct Ran {
-    desk: Desk,
-    next: usize,
-}
-
 // The answer goes to a place of the output.
 fn answered(o: Outcome, out: &mut [u64], at: usize) -> Ran {
     let answer = o.answer;
@@ -274,15 +268,6 @@ fn has_room(out: usize, at: usize, book: u64) -> bool {
         return false;
     }
     book <= (out - at - 2) as u64
-}
-
-// The lengths of the buffers, and the next place of the output.
-struct Room {
-    values: usize,
-    book: usize,
-    log: usize,
-    out: usize,
-    next: usize,
 }
 
 // The length of the record at the head of what is left of a script; 0 where it cannot be run.
