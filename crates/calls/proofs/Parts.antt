@@ -20,8 +20,8 @@ use Rattle.model.specs.Call.{shows, Stores, Lengths, telling, lengthsOf, answer
 use Rattle.model.specs.Step.{Outcome, refusalBy, step}
 use Rattle.model.specs.declared.Cause.{Cause}
 use Rattle.model.specs.declared.Cause.the-variants.{NotOpen, WrongLength, BadField, OpenAgain, BadOpening, PastDay, AfterCorrection, AfterClearing, PointActive, SameSeries, NotActive, HasVersion, TooEarly, VersionPresent, VersionBelow, NoVersion, NotCheckData, NoRow, NoLogRow, SettleTooEarly, AlreadySettled, FirstRunOpen}
-use Rattle.model.specs.declared.Verdict.{Verdict}
-use Rattle.model.specs.declared.Verdict.the-variants.{Fine, Refuse}
+use Rattle.model.specs.declared.Ruling.{Ruling}
+use Rattle.model.specs.declared.Ruling.the-variants.{Fine, Refuse}
 use Rattle.checks.specs.Stepped.{lent}
 use Rattle.checks.proofs.Deciding.{allowed, book-same, refused, granted}
 
@@ -92,7 +92,7 @@ empty-exactly d run group s = go (refusalBy d (telling (lengthsOf s) (shows run 
     o : Outcome
     o = step d (lent (shows run group) s)
 
-    go : (v : Verdict) → v ≡ refusalBy d (telling (lengthsOf s) (shows run group)) → (o .part ≡ []) ↔ (answerNumber (o .answer) ≡ 0 → ⊥)
+    go : (v : Ruling) → v ≡ refusalBy d (telling (lengthsOf s) (shows run group)) → (o .part ≡ []) ↔ (answerNumber (o .answer) ≡ 0 → ⊥)
     go Fine e =
         let k = showable d run group (lengthsOf s) (sym e) in
         let q = d .frame .opening .quarters in

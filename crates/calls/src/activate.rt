@@ -10,26 +10,26 @@ use checks::limits::series_ok;
 use checks::looks::look;
 use checks::points::is_active;
 use checks::rules::or_if;
-use effect::changes::active_record;
-use effect::changes::put_point;
 use model::Asks;
 use model::Cause;
-use model::Verdict;
+use model::Ruling;
 use quantity::Day;
 use quantity::PointNo;
 use quantity::Version;
 use quantity::limits::day_ok;
 use quantity::limits::point_ok;
 use state::Desk;
+use state::changes::active_record;
+use state::changes::put_point;
 ghost use mathlib.Core.Path.{_≡_};
-ghost use Rattle.effect.specs.Effect.{changedBy, Fits};
+ghost use Rattle.state.specs.Effect.{changedBy, Fits};
 ghost use Rattle.model.specs.Call.{Lengths, activates, telling};
 ghost use Rattle.model.specs.Causes.{asking};
 ghost use Rattle.model.specs.Step.{refusalBy};
 ghost use Rattle.checks.specs.Look.{Looked};
 ghost use Rattle.checks.specs.Stepped.{Answered};
 
-fn activate_verdict(
+fn activate_ruling(
     d: Desk,
     l: Look,
     point: PointNo,
@@ -37,7 +37,7 @@ fn activate_verdict(
     area: u64,
     partner: u64,
     day: Day,
-) -> Verdict
+) -> Ruling
     requires { ⌜ Looked d (asking (point .0) 0 kind area partner) l ⌝ }
     ensures { λ r. ⌜ ((n : Lengths) → r ≡ refusalBy d (telling n (activates (point .0) kind area partner (day .0)))) ⌝ }
 {
@@ -67,10 +67,10 @@ pub fn decide_activate(
     ensures { λ r. ⌜ Fits d (r .effect) × Answered d (activates (point .0) kind area partner (day .0)) (r .answer) (changedBy d (r .effect)) ⌝ }
 {
     let frame = d.frame;
-    let v = activate_verdict(d, l, point, kind, area, partner, day);
+    let v = activate_ruling(d, l, point, kind, area, partner, day);
     match v {
-        Verdict::Refuse(c) => refuse(frame, c),
-        Verdict::Fine => {
+        Ruling::Refuse(c) => refuse(frame, c),
+        Ruling::Fine => {
             let p = active_record(kind, area, partner, day);
             accept(put_point(frame, point, p, day))
         }

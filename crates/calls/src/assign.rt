@@ -8,20 +8,20 @@ use checks::decisions::outcome;
 use checks::decisions::refuse;
 use checks::looks::valid;
 use checks::rules::or_if;
-use effect::Effect;
-use effect::changes::put_group;
 use model::Cause;
-use model::Verdict;
+use model::Ruling;
 use quantity::Day;
 use quantity::limits::day_ok;
 use quantity::limits::delta_ok;
 use quantity::limits::group_ok;
 use state::Desk;
+use state::Effect;
+use state::changes::put_group;
 ghost use mathlib.Core.Path.{_≡_};
 ghost use mathlib.Core.Bool.{true};
 ghost use lib.ListN.{length};
 ghost use Rattle.quantity.specs.Limits.{deltaOk, groupOk};
-ghost use Rattle.effect.specs.Effect.{changedBy, Fits};
+ghost use Rattle.state.specs.Effect.{changedBy, Fits};
 ghost use Rattle.state.specs.Valid.{Sound, validDesk};
 ghost use Rattle.model.specs.Call.{Stores, Lengths, assigns, telling};
 ghost use Rattle.model.specs.Step.{refusalBy, granting, withBook};
@@ -29,7 +29,7 @@ ghost use Rattle.model.specs.declared.Answer.the-variants.{Accepted};
 ghost use Rattle.checks.specs.Stepped.{IsBookStep, BookStepped};
 ghost use Rattle.checks.specs.Lent.{withBookLength};
 
-pub fn assign_verdict(d: Desk, fit: bool, size: u64, area: u64, group: u64, day: Day) -> Verdict
+pub fn assign_ruling(d: Desk, fit: bool, size: u64, area: u64, group: u64, day: Day) -> Ruling
     requires { ⌜ fit ≡ validDesk d ⌝ }
     ensures { λ r. ⌜ ((n : Lengths) → r ≡ refusalBy d (telling (withBookLength n size) (assigns area group (day .0)))) ⌝ }
 {
@@ -72,10 +72,10 @@ pub fn decide_assign(
     ensures { λ r. ⌜ Fits d (r .effect) × BookStepped d (assigns area group (day .0)) (now (book .entry)) (r .answer) (changedBy d (r .effect)) (now (book .exit)) ⌝ }
 {
     let frame = d.frame;
-    let v = assign_verdict(d, fit, book.len() as u64, area, group, day);
+    let v = assign_ruling(d, fit, book.len() as u64, area, group, day);
     match v {
-        Verdict::Refuse(c) => refuse(frame, c),
-        Verdict::Fine => accept(assigned(d, area, group, day, book)),
+        Ruling::Refuse(c) => refuse(frame, c),
+        Ruling::Fine => accept(assigned(d, area, group, day, book)),
     }
 }
 

@@ -10,9 +10,8 @@ use checks::looks::asking;
 use checks::looks::look;
 use checks::points::is_active;
 use checks::rules::or_if;
-use effect::changes::put_point;
 use model::Cause;
-use model::Verdict;
+use model::Ruling;
 use quantity::Day;
 use quantity::PointNo;
 use quantity::Version;
@@ -21,16 +20,17 @@ use quantity::limits::point_ok;
 use state::Desk;
 use state::PointRecord;
 use state::PointState;
+use state::changes::put_point;
 use state::selections::is_selected;
 ghost use mathlib.Core.Path.{_≡_};
-ghost use Rattle.effect.specs.Effect.{changedBy, Fits};
+ghost use Rattle.state.specs.Effect.{changedBy, Fits};
 ghost use Rattle.model.specs.Call.{Lengths, deactivates, telling};
 ghost use Rattle.model.specs.Causes.{asking as askingFor};
 ghost use Rattle.model.specs.Step.{refusalBy};
 ghost use Rattle.checks.specs.Look.{Looked};
 ghost use Rattle.checks.specs.Stepped.{Answered};
 
-fn deactivate_verdict(d: Desk, l: Look, point: PointNo, day: Day) -> Verdict
+fn deactivate_ruling(d: Desk, l: Look, point: PointNo, day: Day) -> Ruling
     requires { ⌜ Looked d (askingFor (point .0) 0 0 0 0) l ⌝ }
     ensures { λ r. ⌜ ((n : Lengths) → r ≡ refusalBy d (telling n (deactivates (point .0) (day .0)))) ⌝ }
 {
@@ -53,10 +53,10 @@ pub fn decide_deactivate(d: Desk, l: Look, point: PointNo, day: Day) -> Decided
     ensures { λ r. ⌜ Fits d (r .effect) × Answered d (deactivates (point .0) (day .0)) (r .answer) (changedBy d (r .effect)) ⌝ }
 {
     let frame = d.frame;
-    let v = deactivate_verdict(d, l, point, day);
+    let v = deactivate_ruling(d, l, point, day);
     match v {
-        Verdict::Refuse(c) => refuse(frame, c),
-        Verdict::Fine => {
+        Ruling::Refuse(c) => refuse(frame, c),
+        Ruling::Fine => {
             let free = PointRecord {
                 state: PointState::Free,
             };

@@ -8,28 +8,28 @@ use checks::limits::groups_ok;
 use checks::limits::opening_ok;
 use checks::looks::is_open;
 use checks::rules::or_if;
-use effect::changes::open_desk;
 use model::Cause;
-use model::Verdict;
+use model::Ruling;
 use quantity::Day;
 use quantity::limits::DELTAS;
 use state::Desk;
 use state::Opening;
+use state::changes::open_desk;
 ghost use mathlib.Core.Path.{_≡_};
 ghost use lib.ListN.{length, replicate};
-ghost use Rattle.effect.specs.Effect.{changedBy, Fits};
+ghost use Rattle.state.specs.Effect.{changedBy, Fits};
 ghost use Rattle.model.specs.Call.{opens, telling};
 ghost use Rattle.model.specs.Step.{refusalBy};
 ghost use Rattle.checks.specs.Stepped.{Stepped};
 ghost use Rattle.checks.specs.Lent.{sizes};
 
 // It checks 6, then 4, and never cause 1.
-pub fn open_verdict(d: Desk, o: Opening, groups: [u64; DELTAS as usize]) -> Verdict
+pub fn open_ruling(d: Desk, o: Opening, groups: [u64; DELTAS as usize]) -> Ruling
     ensures { λ r. ⌜ r ≡ refusalBy d (telling (sizes (o .values) (o .book) (o .log)) (opens (o .quarters) (o .first .0) (o .clearing .0) (o .correction .0) groups)) ⌝ }
 {
     let frame = d.frame;
     let opening = frame.opening;
-    let v = or_if(Verdict::Fine, is_open(opening), Cause::OpenAgain);
+    let v = or_if(Ruling::Fine, is_open(opening), Cause::OpenAgain);
     or_if(v, !(opening_ok(o) & groups_ok(groups)), Cause::BadOpening)
 }
 
@@ -66,10 +66,10 @@ pub fn decide_open(
         log: log.len() as u64,
     };
     let frame = d.frame;
-    let v = open_verdict(d, o, groups);
+    let v = open_ruling(d, o, groups);
     match v {
-        Verdict::Refuse(c) => refuse(frame, c),
-        Verdict::Fine => {
+        Ruling::Refuse(c) => refuse(frame, c),
+        Ruling::Fine => {
             clear(book);
             accept(open_desk(o, groups))
         }

@@ -7,17 +7,17 @@ use checks::decisions::outcome;
 use checks::decisions::refuse;
 use checks::looks::valid;
 use checks::rules::or_if;
-use effect::changes::settle_run;
 use model::Cause;
-use model::Verdict;
+use model::Ruling;
 use quantity::Day;
 use quantity::limits::day_ok;
 use quantity::limits::run_ok;
 use state::Desk;
 use state::Opening;
 use state::Runs;
+use state::changes::settle_run;
 ghost use mathlib.Core.Path.{_≡_};
-ghost use Rattle.effect.specs.Effect.{changedBy, Fits};
+ghost use Rattle.state.specs.Effect.{changedBy, Fits};
 ghost use Rattle.state.specs.Desk.{flagOf};
 ghost use Rattle.state.specs.Valid.{validDesk};
 ghost use Rattle.model.specs.Call.{Lengths, settles, telling};
@@ -45,7 +45,7 @@ pub fn flag_of(settled: Runs, run: u64) -> bool
     }
 }
 
-pub fn settle_verdict(d: Desk, fit: bool, run: u64, day: Day) -> Verdict
+pub fn settle_ruling(d: Desk, fit: bool, run: u64, day: Day) -> Ruling
     requires { ⌜ fit ≡ validDesk d ⌝ }
     ensures { λ r. ⌜ ((n : Lengths) → r ≡ refusalBy d (telling n (settles run (day .0)))) ⌝ }
 {
@@ -67,10 +67,10 @@ pub fn decide_settle(d: Desk, fit: bool, run: u64, day: Day) -> Decided
     ensures { λ r. ⌜ Fits d (r .effect) × Answered d (settles run (day .0)) (r .answer) (changedBy d (r .effect)) ⌝ }
 {
     let frame = d.frame;
-    let v = settle_verdict(d, fit, run, day);
+    let v = settle_ruling(d, fit, run, day);
     match v {
-        Verdict::Refuse(c) => refuse(frame, c),
-        Verdict::Fine => accept(settle_run(frame, run, day)),
+        Ruling::Refuse(c) => refuse(frame, c),
+        Ruling::Fine => accept(settle_run(frame, run, day)),
     }
 }
 

@@ -5,7 +5,7 @@ use checks::looks::valid;
 use checks::rules::or_if;
 use model::Answer;
 use model::Cause;
-use model::Verdict;
+use model::Ruling;
 use quantity::limits::group_ok;
 use quantity::limits::run_ok;
 use state::Desk;
@@ -15,7 +15,7 @@ ghost use Rattle.model.specs.Step.{refusalBy, step, withBook};
 ghost use Rattle.checks.specs.Stepped.{lent};
 ghost use Rattle.checks.specs.Lent.{withBookLength};
 
-pub fn show_verdict(d: Desk, size: u64, run: u64, group: u64) -> Verdict
+pub fn show_ruling(d: Desk, size: u64, run: u64, group: u64) -> Ruling
     ensures { λ r. ⌜ ((n : Lengths) → r ≡ refusalBy d (telling (withBookLength n size) (shows run group))) ⌝ }
 {
     let frame = d.frame;
@@ -28,18 +28,18 @@ pub fn show_verdict(d: Desk, size: u64, run: u64, group: u64) -> Verdict
 pub fn show_number(d: Desk, run: u64, group: u64, book: &[u64]) -> Answer
     ensures { λ r. ⌜ ((s : Stores) → r ≡ step d (lent (shows run group) (withBook s (now (book .entry)))) .answer) ⌝ }
 {
-    let v = show_verdict(d, book.len() as u64, run, group);
+    let v = show_ruling(d, book.len() as u64, run, group);
     match v {
-        Verdict::Refuse(c) => Answer::Refused(c),
-        Verdict::Fine => Answer::Accepted,
+        Ruling::Refuse(c) => Answer::Refused(c),
+        Ruling::Fine => Answer::Accepted,
     }
 }
 
 pub fn show_row(d: Desk, run: u64, group: u64, book: &[u64]) -> &[u64]
     ensures { λ r. ⌜ ((s : Stores) → now r ≡ step d (lent (shows run group) (withBook s (now (book .entry)))) .part) ⌝ }
 {
-    let v = show_verdict(d, book.len() as u64, run, group);
-    let Verdict::Fine = v else {
+    let v = show_ruling(d, book.len() as u64, run, group);
+    let Ruling::Fine = v else {
         return &book[0..0];
     };
     let frame = d.frame;

@@ -9,7 +9,7 @@ use checks::points::is_active;
 use checks::rules::or_if;
 use model::Answer;
 use model::Cause;
-use model::Verdict;
+use model::Ruling;
 use quantity::PointNo;
 use quantity::Version;
 use quantity::limits::point_ok;
@@ -23,7 +23,7 @@ ghost use Rattle.model.specs.Step.{statusAnswer, refusalBy};
 ghost use Rattle.checks.specs.Look.{Looked};
 ghost use Rattle.checks.specs.Stepped.{Answered};
 
-fn status_verdict(d: Desk, l: Look, point: PointNo, version: Version) -> Verdict
+fn status_ruling(d: Desk, l: Look, point: PointNo, version: Version) -> Ruling
     requires { ⌜ Looked d (askingFor (point .0) (version .0) 0 0 0) l ⌝ }
     ensures { λ r. ⌜ ((n : Lengths) → r ≡ refusalBy d (telling n (asks (point .0) (version .0)))) ⌝ }
 {
@@ -60,13 +60,13 @@ pub fn status(d: Desk, point: PointNo, version: Version) -> Outcome
     let l = look(d, asking(point, version));
     let survey = l.survey;
     let held = survey.held;
-    let v = status_verdict(d, l, point, version);
+    let v = status_ruling(d, l, point, version);
     match v {
-        Verdict::Refuse(c) => Outcome {
+        Ruling::Refuse(c) => Outcome {
             answer: Answer::Refused(c),
             desk: d,
         },
-        Verdict::Fine => {
+        Ruling::Fine => {
             let answer = status_answer(held);
             Outcome { answer, desk: d }
         }

@@ -12,7 +12,7 @@ use Rattle.quantity.proofs.Tests.{and-left, and-right}
 use Rattle.state.specs.Valid.{openingOk, validDesk}
 use Rattle.state.specs.declared.Desk.{Desk}
 use Rattle.state.specs.declared.Opening.{Opening}
-use Rattle.effect.specs.Effect.{changedBy, unchangedIn, Fits}
+use Rattle.state.specs.Effect.{changedBy, unchangedIn, Fits}
 use Rattle.model.specs.Call.{Call, Stores, Told, Lengths, theBook, told}
 use Rattle.model.specs.Causes.{Rule, terms, rule, rules, orIf, orRule, firstOf, otherLengths, opensOk}
 use Rattle.model.specs.Step.{refusalBy, granting, decided, step}
@@ -21,8 +21,8 @@ use Rattle.model.specs.declared.Answer.{Answer}
 use Rattle.model.specs.declared.Answer.the-variants.{Refused}
 use Rattle.model.specs.declared.Cause.{Cause}
 use Rattle.model.specs.declared.Cause.the-variants.{NotOpen}
-use Rattle.model.specs.declared.Verdict.{Verdict}
-use Rattle.model.specs.declared.Verdict.the-variants.{Fine, Refuse}
+use Rattle.model.specs.declared.Ruling.{Ruling}
+use Rattle.model.specs.declared.Ruling.the-variants.{Fine, Refuse}
 use Rattle.checks.specs.Lent.{sizes}
 use Rattle.checks.specs.declared.Decided.{Decided}
 use Rattle.checks.specs.Stepped.{IsAnswer, IsBookStep, IsStep, lent}
@@ -30,11 +30,11 @@ use Rattle.model.specs.Laws.{Passed}
 use Rattle.model.proofs.Rules.{passed}
 
 -- one check more: the verdict so far, and the test, as the table has them
-pub checked : {v w r : Verdict} {t s : Bool} (c : Cause) → r ≡ orIf v t c → v ≡ w → t ≡ s → r ≡ orIf w s c
+pub checked : {v w r : Ruling} {t s : Bool} (c : Cause) → r ≡ orIf v t c → v ≡ w → t ≡ s → r ≡ orIf w s c
 checked c e h k = cc
 
 -- cause 1, by what one look found
-pub begun : (d : Desk) {r : Verdict} {t : Bool} → r ≡ orIf (orIf Fine (not t) NotOpen) (not (isOpen (d .frame .opening))) NotOpen → t ≡ validDesk d
+pub begun : (d : Desk) {r : Ruling} {t : Bool} → r ≡ orIf (orIf Fine (not t) NotOpen) (not (isOpen (d .frame .opening))) NotOpen → t ≡ validDesk d
     → r ≡ orIf (orIf Fine (not (validDesk d)) NotOpen) (not (isOpen (d .frame .opening))) NotOpen
 begun d e h = cc
 
@@ -92,7 +92,7 @@ pub unmoved : (d : Desk) {x : Cause} {r : Decided} → (r .answer ≡ Refused x)
     → Fits d (r .effect) × ((r .answer ≡ Refused x) × (changedBy d (r .effect) ≡ d))
 unmoved d h = (rw (h .1) tt, (h .0, rw (h .1)))
 
-module _ (d : Desk) (c : Call) (s : Stores) {v : Verdict} (e : v ≡ refusalBy d (told (lent c s))) where
+module _ (d : Desk) (c : Call) (s : Stores) {v : Ruling} (e : v ≡ refusalBy d (told (lent c s))) where
   -- a refused call changes nothing
   pub refused : {x : Cause} → v ≡ Refuse x → step d (lent c s) ≡ record { answer = Refused x; part = []; desk = d; stores = s }
   unfolding step decided

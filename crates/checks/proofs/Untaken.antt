@@ -10,8 +10,8 @@ use Rattle.model.specs.Call.{Call, opens, activates, deactivates, submits, noti
 use Rattle.model.specs.Causes.{takes, otherLengths, openingBy}
 use Rattle.model.specs.Step.{withBook, step, granting, decided, refusalBy}
 use Rattle.model.specs.declared.Answer.{Answer}
-use Rattle.model.specs.declared.Verdict.{Verdict}
-use Rattle.model.specs.declared.Verdict.the-variants.{Fine, Refuse}
+use Rattle.model.specs.declared.Ruling.{Ruling}
+use Rattle.model.specs.declared.Ruling.the-variants.{Fine, Refuse}
 use Rattle.checks.specs.Stepped.{IsStep, IsBookStep, IsAnswer, lent}
 
 -- ---- it stays, and so does the opening
@@ -33,7 +33,7 @@ module _ (f : Stores → List ℕ) (t : Taken → Bool) (full : t everyStore ≡
   unfolding step decided
   step-keeps d s c e = go (refusalBy d (told (lent c s)))
     where
-      go : (v : Verdict) → (decided v d s c .desk .frame .opening ≡ d .frame .opening) × (f (decided v d s c .stores) ≡ f s)
+      go : (v : Ruling) → (decided v d s c .desk .frame .opening ≡ d .frame .opening) × (f (decided v d s c .stores) ≡ f s)
       go Fine = granted-keeps d s c e
       go (Refuse x) = (refl, refl)
 
@@ -107,6 +107,6 @@ module _ (d : Desk) (s u : Stores) where
   unfolding step decided
   unseen c x y z = rw (same-refusal c x y z) (go (refusalBy d (told (lent c u))))
     where
-      go : (v : Verdict) → (decided v d s c .answer ≡ decided v d u c .answer) × (decided v d s c .desk ≡ decided v d u c .desk)
+      go : (v : Ruling) → (decided v d s c .answer ≡ decided v d u c .answer) × (decided v d s c .desk ≡ decided v d u c .desk)
       go Fine = same-granted c x y z
       go (Refuse w) = (refl, refl)

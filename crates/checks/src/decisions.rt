@@ -3,29 +3,29 @@ use crate::Decided;
 use crate::Outcome;
 use crate::looks::is_open;
 use crate::rules::or_if;
-use effect::Effect;
-use effect::effects::changed;
-use effect::effects::unchanged;
 use model::Answer;
 use model::Cause;
-use model::Verdict;
+use model::Ruling;
 use state::Desk;
+use state::Effect;
 use state::Frame;
 use state::Opening;
+use state::effects::changed;
+use state::effects::unchanged;
 ghost use mathlib.Core.Path.{_≡_};
 ghost use mathlib.Core.Bool.{not};
 ghost use Rattle.model.specs.Causes.{orIf};
-ghost use Rattle.effect.specs.Effect.{changedBy, unchangedIn, Fits};
+ghost use Rattle.state.specs.Effect.{changedBy, unchangedIn, Fits};
 ghost use Rattle.model.specs.declared.Answer.the-variants.{Accepted, Refused};
 ghost use Rattle.model.specs.declared.Cause.the-variants.{NotOpen};
-ghost use Rattle.model.specs.declared.Verdict.the-variants.{Fine};
+ghost use Rattle.model.specs.declared.Ruling.the-variants.{Fine};
 ghost use Rattle.state.specs.Desk.{isOpen};
 
 // Cause 1: the state is outside its limits, or not open.
-pub fn at_work(valid: bool, opening: Opening) -> Verdict
+pub fn at_work(valid: bool, opening: Opening) -> Ruling
     ensures { λ r. ⌜ r ≡ orIf (orIf Fine (not valid) NotOpen) (not (isOpen opening)) NotOpen ⌝ }
 {
-    let v = or_if(Verdict::Fine, !valid, Cause::NotOpen);
+    let v = or_if(Ruling::Fine, !valid, Cause::NotOpen);
     or_if(v, !is_open(opening), Cause::NotOpen)
 }
 

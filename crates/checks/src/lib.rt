@@ -8,9 +8,9 @@ pub mod rules;
 pub mod stores;
 pub mod surveys;
 
-use effect::Effect;
 use model::Answer;
 use state::Desk;
+use state::Effect;
 use state::Held;
 use state::PointState;
 use state::Selection;

@@ -15,8 +15,8 @@ use Rattle.model.specs.Call.{Call, opens, activates, deactivates, submits, noti
 use Rattle.model.specs.Causes.{takes}
 use Rattle.model.specs.Plain.{plainReplies, plainEnd}
 use Rattle.model.specs.Step.{step, granting, decided, refusalBy, replyOf}
-use Rattle.model.specs.declared.Verdict.{Verdict}
-use Rattle.model.specs.declared.Verdict.the-variants.{Fine, Refuse}
+use Rattle.model.specs.declared.Ruling.{Ruling}
+use Rattle.model.specs.declared.Ruling.the-variants.{Fine, Refuse}
 use Rattle.model.proofs.Lending.{left-in}
 use Rattle.model.proofs.Main.{agree}
 use Rattle.checks.specs.Stepped.{lent}
@@ -54,7 +54,7 @@ no-part : (d : Desk) (s : Stores) (c : Call) → changes c ≡ true → step d (
 unfolding step decided
 no-part d s c w = go (refusalBy d (told (lent c s)))
   where
-    go : (v : Verdict) → decided v d s c .part ≡ []
+    go : (v : Ruling) → decided v d s c .part ≡ []
     go Fine = granted-part d s c w
     go (Refuse x) = refl
 

@@ -30,8 +30,8 @@ use Rattle.model.specs.declared.Cause.the-variants.{NoRow, NoLogRow}
 use Rattle.model.specs.declared.Due.{Due}
 use Rattle.model.specs.declared.Due.the-variants.{Nothing, Row}
 use Rattle.model.specs.declared.LogRow.{LogRow}
-use Rattle.model.specs.declared.Verdict.{Verdict}
-use Rattle.model.specs.declared.Verdict.the-variants.{Fine, Refuse}
+use Rattle.model.specs.declared.Ruling.{Ruling}
+use Rattle.model.specs.declared.Ruling.the-variants.{Fine, Refuse}
 use Rattle.model.proofs.Rules.{not-refused, passed, passed-fine, first-decides, decides-first}
 
 -- ---- each cause both ways, on a desk in any state
@@ -64,7 +64,7 @@ module _ (d : Desk) (l : Lent) where
   unfolding step decided refusalBy
   step-refused x e = go (refusalBy d (told l)) refl e
     where
-      go : (v : Verdict) → refusalBy d (told l) ≡ v → decided v d (l .stores) (l .call) .answer ≡ Refused x → Decides x (lines d (told l))
+      go : (v : Ruling) → refusalBy d (told l) ≡ v → decided v d (l .stores) (l .call) .answer ≡ Refused x → Decides x (lines d (told l))
       go Fine z e = granted-fine d (l .stores) (l .call) x (passed (lines d (told l)) z .1) e
       go (Refuse y) z e = let same : y ≡ x = cc in first-decides (lines d (told l)) x (z ∙ ap Refuse same)
 
@@ -101,7 +101,7 @@ pub accepted-passed : (d : Desk) (l : Lent) → step d l .answer ≡ Accepted �
 unfolding step decided refusalBy
 accepted-passed d l e = go (refusalBy d (told l)) refl e
   where
-    go : (v : Verdict) → refusalBy d (told l) ≡ v → decided v d (l .stores) (l .call) .answer ≡ Accepted → Passed (lines d (told l))
+    go : (v : Ruling) → refusalBy d (told l) ≡ v → decided v d (l .stores) (l .call) .answer ≡ Accepted → Passed (lines d (told l))
     go Fine z e = passed (lines d (told l)) z
     go (Refuse y) z e = not-refused y (sym e)
 

@@ -28,8 +28,8 @@ use Rattle.model.specs.declared.Answer.the-variants.{Refused}
 use Rattle.model.specs.declared.Cause.{Cause}
 use Rattle.model.specs.declared.Cause.the-variants.{NotOpen, NoVersion}
 use Rattle.model.specs.declared.Due.the-variants.{Nothing}
-use Rattle.model.specs.declared.Verdict.{Verdict}
-use Rattle.model.specs.declared.Verdict.the-variants.{Fine, Refuse}
+use Rattle.model.specs.declared.Ruling.{Ruling}
+use Rattle.model.specs.declared.Ruling.the-variants.{Fine, Refuse}
 use Rattle.model.proofs.Ends.{small-figure}
 use Rattle.model.proofs.Figures.{figure-none}
 use Rattle.model.proofs.Fresh.{State, early, holding}
@@ -100,7 +100,7 @@ opened-else : {A : Type 0} (d : Desk) (s : Stores) (h : List Told) (x : Lent) �
 unfolding step decided refusalBy
 opened-else {A} d s h x H e = go (refusalBy d (told x)) refl e
   where
-    go : (v : Verdict) → refusalBy d (told x) ≡ v → decided v d (x .stores) (x .call) .answer ≡ Refused NotOpen → A
+    go : (v : Ruling) → refusalBy d (told x) ≡ v → decided v d (x .stores) (x .call) .answer ≡ Refused NotOpen → A
     go Fine z e = granted-else d (x .stores) (x .call) e
     go (Refuse y) z e =
         let same : y ≡ NotOpen = cc in
@@ -128,7 +128,7 @@ granted-blind d (shows r g) s t e = record { answer = refl; desk = refl; row = N
 granted-blind d (asks p x) s t e = record { answer = refl; desk = refl; row = Nothing; log = refl; otherLog = refl }
 granted-blind d (settles r day) s t e = record { answer = refl; desk = refl; row = Nothing; log = refl; otherLog = refl }
 
-decided-blind : (v : Verdict) (d : Desk) (c : Call) (s t : Stores) → lengthsOf s ≡ lengthsOf t → Alike d s t (decided v d s c) (decided v d t c)
+decided-blind : (v : Ruling) (d : Desk) (c : Call) (s t : Stores) → lengthsOf s ≡ lengthsOf t → Alike d s t (decided v d s c) (decided v d t c)
 unfolding decided
 decided-blind Fine d c s t e = granted-blind d c s t e
 decided-blind (Refuse x) d c s t e = record { answer = refl; desk = refl; row = Nothing; log = refl; otherLog = refl }

@@ -17,8 +17,8 @@ use Rattle.model.specs.Plain.{plainReplies, plainEnd}
 use Rattle.model.specs.Step.{lines, statusAnswer, granting, refusalBy, decided, step}
 use Rattle.model.specs.declared.Answer.the-variants.{Refused}
 use Rattle.model.specs.declared.Cause.{Cause}
-use Rattle.model.specs.declared.Verdict.{Verdict}
-use Rattle.model.specs.declared.Verdict.the-variants.{Fine, Refuse}
+use Rattle.model.specs.declared.Ruling.{Ruling}
+use Rattle.model.specs.declared.Ruling.the-variants.{Fine, Refuse}
 use Rattle.model.proofs.Main.{agree}
 use Rattle.model.proofs.Rules.{not-refused, refused-among}
 
@@ -59,7 +59,7 @@ pub answers : (d : Desk) (l : Lent) → Answered (l .call) (step d l .answer)
 unfolding step decided refusalBy
 answers d l = go (refusalBy d (told l)) refl
   where
-    go : (v : Verdict) → refusalBy d (told l) ≡ v → Answered (l .call) (decided v d (l .stores) (l .call) .answer)
+    go : (v : Ruling) → refusalBy d (told l) ≡ v → Answered (l .call) (decided v d (l .stores) (l .call) .answer)
     go Fine e = granted-answered d (l .stores) (l .call)
     go (Refuse x) e = refused-among (λ (c : Cause). isIn (fits (l .call)) (causeNumber c)) _ (listed d (lengthsOf (l .stores)) (l .call)) x e
 
@@ -79,7 +79,7 @@ pub refused-keeps : (d : Desk) (l : Lent) (x : Cause) → step d l .answer ≡ R
 unfolding step decided
 refused-keeps d l x e = go (refusalBy d (told l)) e
   where
-    go : (v : Verdict) → decided v d (l .stores) (l .call) .answer ≡ Refused x → Untouched d (l .stores) (decided v d (l .stores) (l .call))
+    go : (v : Ruling) → decided v d (l .stores) (l .call) .answer ≡ Refused x → Untouched d (l .stores) (decided v d (l .stores) (l .call))
     go Fine e = granted-keeps d (l .stores) (l .call) x e
     go (Refuse y) e = record { desk = refl; stores = refl; part = refl }
 

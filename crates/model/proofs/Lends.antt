@@ -18,8 +18,8 @@ use Rattle.model.specs.Call.{Call, opens, activates, deactivates, submit
 use Rattle.model.specs.Causes.{takes, orIf, firstOf, openingBy, opensOk, refusal}
 use Rattle.model.specs.Plain.{Worked, openingOf, viewIn, joined, plainNext, workedOut, after}
 use Rattle.model.specs.Step.{withBook, refusalBy, decided, step}
-use Rattle.model.specs.declared.Verdict.{Verdict}
-use Rattle.model.specs.declared.Verdict.the-variants.{Fine, Refuse}
+use Rattle.model.specs.declared.Ruling.{Ruling}
+use Rattle.model.specs.declared.Ruling.the-variants.{Fine, Refuse}
 use Rattle.model.proofs.Fresh.{State, early, holding}
 use Rattle.model.proofs.Invariant.{Holds, book-is, plain-open}
 use Rattle.model.proofs.Lending.{left-every}
@@ -39,7 +39,7 @@ lend-chained r [] = tt
 lend-chained r (c ∷ l) = (lent-own (r .desk .frame .opening) (takes c) (r .stores), lend-chained (next r (ownLent r c)) l)
 
 -- a call that sets no opening, refused or not
-unset : (v : Verdict) (h : List Told) (t : Told) → after t (workedOut h) .opening ≡ openingOf h → openingOf (joined v h t) ≡ openingOf h
+unset : (v : Ruling) (h : List Told) (t : Told) → after t (workedOut h) .opening ≡ openingOf h → openingOf (joined v h t) ≡ openingOf h
 unfolding joined workedOut
 unset Fine h t e = e
 unset (Refuse x) h t e = refl

@@ -8,8 +8,8 @@ use Rattle.model.specs.Laws.{Passed}
 use Rattle.model.specs.Plain.{viewIn, answered, joined, plainReply, plainNext, plainReplies, plainEnd}
 use Rattle.model.specs.Step.{refusalBy, decided, step, replyOf}
 use Rattle.model.specs.View.{viewOf}
-use Rattle.model.specs.declared.Verdict.{Verdict}
-use Rattle.model.specs.declared.Verdict.the-variants.{Fine, Refuse}
+use Rattle.model.specs.declared.Ruling.{Ruling}
+use Rattle.model.specs.declared.Ruling.the-variants.{Fine, Refuse}
 use Rattle.model.proofs.Assign.{assign-granted}
 use Rattle.model.proofs.Ends.{holds-agree}
 use Rattle.model.proofs.Fresh.{State, early, holding, open-granted, fresh-step, fresh-agree}
@@ -49,7 +49,7 @@ opened-step d s h l H o = go (refusal (viewIn h) (told l)) refl
     same : refusalBy d (told l) ≡ refusal (viewIn h) (told l)
     same = same-refusal d s h H (told l)
 
-    go : (x : Verdict) → refusal (viewIn h) (told l) ≡ x → (replyOf (step d l) ≡ plainReply h (told l)) × State (next (record { desk = d; stores = s }) l) (plainNext h (told l))
+    go : (x : Ruling) → refusal (viewIn h) (told l) ≡ x → (replyOf (step d l) ≡ plainReply h (told l)) × State (next (record { desk = d; stores = s }) l) (plainNext h (told l))
     go (Refuse c) e = rw (same, e) (refl, holding (rw (left-own (d .frame .opening) s (l .stores) (holds-open d s h H) (takes (l .call)) o) H))
     go Fine e =
         let D : Done d s h (l .call) (l .stores) = every (l .call) d s h (l .stores) H o (fine d s h l H e) in

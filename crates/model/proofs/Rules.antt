@@ -11,15 +11,15 @@ use Rattle.model.specs.Laws.{Passed, Decides, here, below}
 use Rattle.model.specs.declared.Answer.{Answer}
 use Rattle.model.specs.declared.Answer.the-variants.{Accepted, Refused}
 use Rattle.model.specs.declared.Cause.{Cause}
-use Rattle.model.specs.declared.Verdict.{Verdict}
-use Rattle.model.specs.declared.Verdict.the-variants.{Fine, Refuse}
+use Rattle.model.specs.declared.Ruling.{Ruling}
+use Rattle.model.specs.declared.Ruling.the-variants.{Fine, Refuse}
 
 stays : (x : Cause) (l : List Rule) → fold orRule (Refuse x) l ≡ Refuse x
 unfolding fold orIf
 stays x [] = refl
 stays x (r ∷ l) = stays x l
 
-never : {A : Type 0} (x : Cause) → _≡_ {A = Verdict} (Refuse x) Fine → A
+never : {A : Type 0} (x : Cause) → _≡_ {A = Ruling} (Refuse x) Fine → A
 never x e = let z : _≡_ {A = ℕ} 0 1 = cc in absurd (omega arith)
 
 -- what is accepted is not refused
@@ -42,7 +42,7 @@ unfolding firstOf fold orIf
 passed-fine [] P = refl
 passed-fine (r ∷ l) P = rw (P .0) (passed-fine l (P .1))
 
-same-cause : (x y : Cause) → _≡_ {A = Verdict} (Refuse x) (Refuse y) → x ≡ y
+same-cause : (x y : Cause) → _≡_ {A = Ruling} (Refuse x) (Refuse y) → x ≡ y
 same-cause x y e = cc
 
 -- the first rule that holds decides, and no earlier one holds

@@ -22,8 +22,8 @@ use Rattle.model.specs.Causes.{terms, rules, orIf, firstOf, openingBy, o
 use Rattle.model.specs.Laws.{Passed}
 use Rattle.model.specs.Plain.{Worked, openingOf, dayOf, versionsOf, settledOf, viewIn, joined, plainNext, plainEnd, workedOut, after}
 use Rattle.model.specs.View.{View}
-use Rattle.model.specs.declared.Verdict.{Verdict}
-use Rattle.model.specs.declared.Verdict.the-variants.{Fine, Refuse}
+use Rattle.model.specs.declared.Ruling.{Ruling}
+use Rattle.model.specs.declared.Ruling.the-variants.{Fine, Refuse}
 use Rattle.model.proofs.Corollaries.{reached}
 use Rattle.model.proofs.Demands.{chained-front}
 use Rattle.model.proofs.Fresh.{State, early, holding}
@@ -125,7 +125,7 @@ opened-on : (h : List Told) (n : Lengths) (c : Call) → Opened h → Onward h (
 unfolding plainNext joined refusal workedOut after fold
 opened-on h n c O = go (refusal (viewIn h) (telling n c)) refl (opening-stays h n c (is-open h O n))
   where
-    go : (v : Verdict) → refusal (viewIn h) (telling n c) ≡ v → openingOf (joined (refusal (viewIn h) (telling n c)) h (telling n c)) ≡ openingOf h → Onward h (joined v h (telling n c))
+    go : (v : Ruling) → refusal (viewIn h) (telling n c) ≡ v → openingOf (joined (refusal (viewIn h) (telling n c)) h (telling n c)) ≡ openingOf h → Onward h (joined v h (telling n c))
     go (Refuse x) e o = record { plain = opened O; settled = λ z. z; stays = λ z i. refl }
     go Fine e o =
         let P = passed (rules (viewIn h) n c) e in

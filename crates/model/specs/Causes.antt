@@ -25,8 +25,8 @@ use Rattle.model.specs.declared.Cause.{Cause}
 use Rattle.model.specs.declared.Cause.the-variants.{NotOpen, WrongLength, BadField, OpenAgain, BadOpening, PastDay, AfterCorrection, AfterClearing, PointActive, SameSeries, NotActive, HasVersion, TooEarly, VersionPresent, VersionBelow, NoVersion, NotCheckData, NoRow, NoLogRow, SettleTooEarly, AlreadySettled, FirstRunOpen}
 use Rattle.model.specs.declared.Due.{Due}
 use Rattle.model.specs.declared.Due.the-variants.{Nothing, Row}
-use Rattle.model.specs.declared.Verdict.{Verdict}
-use Rattle.model.specs.declared.Verdict.the-variants.{Fine, Refuse}
+use Rattle.model.specs.declared.Ruling.{Ruling}
+use Rattle.model.specs.declared.Ruling.the-variants.{Fine, Refuse}
 
 -- a line of the table for a call: whether the cause holds, and the cause
 pub record Rule : Type 0 where
@@ -38,16 +38,16 @@ abbrev pub rule : Bool → Cause → List Rule → List Rule
 rule t c l = record { holds = t; cause = c } ∷ l
 
 -- what is refused stays refused; what is fine is refused where the test holds
-unfoldable pub orIf : Verdict → Bool → Cause → Verdict
+unfoldable pub orIf : Ruling → Bool → Cause → Ruling
 orIf Fine t c = cond t (Refuse c) Fine
 orIf (Refuse e) t c = Refuse e
 
 -- the same by a line of the table
-abbrev pub orRule : Verdict → Rule → Verdict
+abbrev pub orRule : Ruling → Rule → Ruling
 orRule v r = orIf v (r .holds) (r .cause)
 
 -- "the first that holds decides"
-unfoldable pub firstOf : List Rule → Verdict
+unfoldable pub firstOf : List Rule → Ruling
 firstOf l = fold orRule Fine l
 
 -- the opening that a call of open would make
@@ -285,5 +285,5 @@ abbrev pub rules : View → Lengths → Call → List Rule
 rules v n c = terms c .rules v n
 
 -- what the table says of a call on an honest desk
-unfoldable pub refusal : View → Told → Verdict
+unfoldable pub refusal : View → Told → Ruling
 refusal v t = firstOf (rules v (t .lengths) (t .call))

@@ -25,8 +25,8 @@ use Rattle.model.specs.View.{View}
 use Rattle.model.specs.declared.Answer.{Answer}
 use Rattle.model.specs.declared.Answer.the-variants.{Accepted, Refused}
 use Rattle.model.specs.declared.LogRow.{LogRow}
-use Rattle.model.specs.declared.Verdict.{Verdict}
-use Rattle.model.specs.declared.Verdict.the-variants.{Fine, Refuse}
+use Rattle.model.specs.declared.Ruling.{Ruling}
+use Rattle.model.specs.declared.Ruling.the-variants.{Fine, Refuse}
 
 -- what the plain desk works out: the opening, the day, the points, the delta groups, the versions, the energies of the submissions in their
 -- order, the log rows, the runs settled
@@ -179,12 +179,12 @@ granted h (asks p x) = plainly (statusAnswer (held p x (versionsOf h)))
 granted h (settles r d) = plainly Accepted
 
 -- "A call that the table below refuses gets its number, show an empty row too, and leaves the list as it is"
-unfoldable pub answered : Verdict → List Told → Call → Reply
+unfoldable pub answered : Ruling → List Told → Call → Reply
 answered Fine h c = granted h c
 answered (Refuse x) h c = plainly (Refused x)
 
 -- "An accepted call joins the end"
-unfoldable pub joined : Verdict → List Told → Told → List Told
+unfoldable pub joined : Ruling → List Told → Told → List Told
 joined Fine h t = t ∷ h
 joined (Refuse x) h t = h
 

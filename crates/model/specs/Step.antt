@@ -34,8 +34,8 @@ use Rattle.model.specs.declared.Side.{Side}
 use Rattle.model.specs.declared.Side.the-variants.{Outside, Group, Delta}
 use Rattle.model.specs.declared.Sides.{Sides}
 use Rattle.model.specs.declared.Turn.{Turn}
-use Rattle.model.specs.declared.Verdict.{Verdict}
-use Rattle.model.specs.declared.Verdict.the-variants.{Fine, Refuse}
+use Rattle.model.specs.declared.Ruling.{Ruling}
+use Rattle.model.specs.declared.Ruling.the-variants.{Fine, Refuse}
 
 -- ---- the book
 
@@ -154,11 +154,11 @@ abbrev pub lines : Desk → Told → List Rule
 lines d t = rule (not (terms (t .call) .opening) && not (validDesk d)) NotOpen (rules (viewOf d) (t .lengths) (t .call))
 
 -- what they say
-unfoldable pub refusalBy : Desk → Told → Verdict
+unfoldable pub refusalBy : Desk → Told → Ruling
 refusalBy d t = firstOf (lines d t)
 
 -- "A refusal returns its number and changes nothing in the desk, its stores or the output. A refused show returns an empty part too"
-unfoldable pub decided : Verdict → Desk → Stores → Call → Outcome
+unfoldable pub decided : Ruling → Desk → Stores → Call → Outcome
 decided Fine d s c = granting d s c
 decided (Refuse x) d s c = record { answer = Refused x; part = []; desk = d; stores = s }
 

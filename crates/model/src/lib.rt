@@ -62,7 +62,7 @@ pub enum Answer {
 }
 
 // What the table says of a call: fine, or the cause that decides.
-pub enum Verdict {
+pub enum Ruling {
     Fine,
     Refuse(Cause),
 }

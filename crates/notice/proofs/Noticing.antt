@@ -28,8 +28,8 @@ use Rattle.state.specs.declared.VersionRecord.{VersionRecord}
 use Rattle.state.proofs.Bounds.{state-in, rows-fit}
 use Rattle.state.proofs.Kept.{notice-own, notice-negative}
 use Rattle.state.proofs.Picks.{held-right}
-use Rattle.effect.specs.Effect.{changedBy}
-use Rattle.effect.specs.declared.Effect.{Effect}
+use Rattle.state.specs.Effect.{changedBy}
+use Rattle.state.specs.declared.Effect.{Effect}
 use Rattle.model.specs.Call.{notices}
 use Rattle.model.specs.Causes.{rules, firstOf, notCheck, logFull}
 use Rattle.model.specs.Log.{turnOf, due}
@@ -39,7 +39,7 @@ use Rattle.model.specs.View.{viewOf}
 use Rattle.model.specs.declared.Answer.the-variants.{Accepted}
 use Rattle.model.specs.declared.Due.{Due}
 use Rattle.model.specs.declared.Turn.{Turn}
-use Rattle.model.specs.declared.Verdict.the-variants.{Fine}
+use Rattle.model.specs.declared.Ruling.the-variants.{Fine}
 use Rattle.model.proofs.Rules.{passed}
 use Rattle.model.proofs.Selections.{noticed-restated, restated-all}
 use Rattle.amend.proofs.Logs.{room-left}

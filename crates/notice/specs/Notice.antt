@@ -21,8 +21,8 @@ use Rattle.state.specs.declared.Selection.{Selection}
 use Rattle.state.specs.declared.Status.{Status}
 use Rattle.state.specs.declared.Status.the-variants.{Check}
 use Rattle.state.specs.declared.VersionRecord.{VersionRecord}
-use Rattle.effect.specs.Effect.{changedBy, Fits}
-use Rattle.effect.specs.declared.Effect.{Effect}
+use Rattle.state.specs.Effect.{changedBy, Fits}
+use Rattle.state.specs.declared.Effect.{Effect}
 use Rattle.model.specs.Log.{logged, usedAfter}
 use Rattle.model.specs.Series.{sidesOf}
 use Rattle.model.specs.Step.{amendBy}

@@ -19,18 +19,15 @@ use checks::points::is_active;
 use checks::rules::or_if;
 use checks::stores::log_full;
 use checks::stores::other_lengths;
-use effect::Effect;
-use effect::changes::put_version;
-use effect::changes::restated;
-use effect::effects::unchanged;
 use model::Cause;
 use model::Due;
+use model::Ruling;
 use model::Turn;
-use model::Verdict;
 use quantity::Day;
 use quantity::PointNo;
 use quantity::Version;
 use state::Desk;
+use state::Effect;
 use state::Frame;
 use state::Held;
 use state::Opening;
@@ -38,6 +35,9 @@ use state::PointState;
 use state::Selection;
 use state::Status;
 use state::VersionRecord;
+use state::changes::put_version;
+use state::changes::restated;
+use state::effects::unchanged;
 use state::selections::raised_earlier;
 use state::selections::row_at;
 use state::statuses::confirmed_status;
@@ -46,7 +46,7 @@ use state::statuses::is_check;
 ghost use mathlib.Core.Path.{_≡_};
 ghost use Rattle.state.specs.Desk.{versionsIn};
 ghost use Rattle.state.specs.Valid.{Sound};
-ghost use Rattle.effect.specs.Effect.{changedBy, Fits};
+ghost use Rattle.state.specs.Effect.{changedBy, Fits};
 ghost use Rattle.model.specs.Call.{notices};
 ghost use Rattle.model.specs.Causes.{rules, firstOf, asking as askingFor};
 ghost use Rattle.model.specs.Log.{due as dueOf};
@@ -94,7 +94,7 @@ pub fn notice_turn(f: Frame, s: Survey, verdict: u64, day: Day) -> Turn
 }
 
 // The table's lines for a notice, in their order.
-fn notice_checks(
+fn notice_ruling(
     d: Desk,
     l: Look,
     due: Due,
@@ -103,7 +103,7 @@ fn notice_checks(
     verdict: u64,
     day: Day,
     n: Sizes,
-) -> Verdict
+) -> Ruling
     requires { ⌜ Sound d ⌝ }
     requires { ⌜ Looked d (askingFor (point .0) (version .0) 0 0 0) l ⌝ }
     requires { ⌜ due ≡ dueOf (versionsIn d) (noticedIn d (point .0) (version .0) verdict (day .0)) (point .0) (day .0) ⌝ }
@@ -114,7 +114,7 @@ fn notice_checks(
     let here = l.here;
     let found = l.survey;
     let held = found.held;
-    let k0 = or_if(Verdict::Fine, !is_open(o), Cause::NotOpen);
+    let k0 = or_if(Ruling::Fine, !is_open(o), Cause::NotOpen);
     let k1 = or_if(k0, other_lengths(o, n), Cause::WrongLength);
     let k2 = or_if(
         k1,
@@ -194,10 +194,10 @@ pub fn decide_notice(
     let found = l.survey;
     let turn = notice_turn(f, found, verdict, day);
     let due = due_by(turn, point, day);
-    let decided = notice_checks(d, l, due, point, version, verdict, day, n);
+    let decided = notice_ruling(d, l, due, point, version, verdict, day, n);
     match decided {
-        Verdict::Refuse(cause) => refuse(f, cause),
-        Verdict::Fine => {
+        Ruling::Refuse(cause) => refuse(f, cause),
+        Ruling::Fine => {
             let here = l.here;
             let held = found.held;
             accept(notice_granted(d, here, held, turn, due, verdict, day, values, book, log))

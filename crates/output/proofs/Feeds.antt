@@ -24,8 +24,8 @@ use Rattle.model.specs.Call.{Call, opens, activates, deactivates, submits, noti
 use Rattle.model.specs.Causes.{openingBy, opensOk, orIf, firstOf, rules, refusal}
 use Rattle.model.specs.Plain.{openingOf, pointsOf, versionsOf, energiesOf, viewIn, outside, answered, joined, plainReply, plainNext, plainEnd, workedOut, after}
 use Rattle.model.specs.Series.{energy, isOutside, outsideOf}
-use Rattle.model.specs.declared.Verdict.{Verdict}
-use Rattle.model.specs.declared.Verdict.the-variants.{Fine, Refuse}
+use Rattle.model.specs.declared.Ruling.{Ruling}
+use Rattle.model.specs.declared.Ruling.the-variants.{Fine, Refuse}
 use Rattle.model.proofs.Lists.{all-snoc}
 use Rattle.model.proofs.Rules.{passed}
 use Rattle.replay.specs.Feeding.{lentOf, lengthsFor, toldAs, tells}
@@ -36,7 +36,7 @@ joins : (P : List Told → Type 0) (h : List Told) (t : Told) → P h → (refus
 unfolding plainNext joined
 joins P h t p f = by (refusal (viewIn h) t) refl
   where
-    by : (v : Verdict) → refusal (viewIn h) t ≡ v → P (joined v h t)
+    by : (v : Ruling) → refusal (viewIn h) t ≡ v → P (joined v h t)
     by Fine e = f e
     by (Refuse x) e = p
 

@@ -14,8 +14,8 @@ use Rattle.model.specs.Plain.{workedOut, viewIn, joined, plainNext}
 use Rattle.model.specs.Step.{withBook, granting, refusalBy, decided, step}
 use Rattle.model.specs.declared.Cause.{Cause}
 use Rattle.model.specs.declared.Cause.the-variants.{NotOpen, OpenAgain, BadOpening}
-use Rattle.model.specs.declared.Verdict.{Verdict}
-use Rattle.model.specs.declared.Verdict.the-variants.{Fine, Refuse}
+use Rattle.model.specs.declared.Ruling.{Ruling}
+use Rattle.model.specs.declared.Ruling.the-variants.{Fine, Refuse}
 use Rattle.model.proofs.Invariant.{same-refusal, plain-open}
 use Rattle.model.proofs.Main.{fine}
 use Rattle.replay.specs.Feeding.{toldAs}
@@ -70,7 +70,7 @@ opened-kept s r h c G q = go (refusal (viewIn h) (told (lentTo r c))) refl
     whole : reach r c ≡ figuresOf (r .desk .frame .opening)
     whole = reach-whole r c (q (r .desk .frame .opening .quarters)) (book-fits s r h G)
 
-    go : (v : Verdict) → refusal (viewIn h) (told (lentTo r c)) ≡ v → Kept s r h c
+    go : (v : Ruling) → refusal (viewIn h) (told (lentTo r c)) ≡ v → Kept s r h c
     go (Refuse x) e = refused-kept s r h c x (same ∙ e) e (opened G)
     go Fine e =
         accepted-kept s r h c (same ∙ e) e (figuresOf (r .desk .frame .opening)) (sym whole)

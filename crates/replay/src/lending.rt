@@ -11,7 +11,7 @@ use state::Desk;
 ghost use mathlib.Core.Path.{_≡_};
 ghost use mathlib.Core.List.{map};
 ghost use Rattle.quantity.specs.Word.{signed};
-ghost use Rattle.effect.specs.Effect.{changedBy, Fits};
+ghost use Rattle.state.specs.Effect.{changedBy, Fits};
 ghost use Rattle.checks.specs.Stepped.{storesOf};
 ghost use Rattle.dispatch.specs.Asked.{asked};
 ghost use Rattle.replay.specs.Feeding.{lentOf};

@@ -3,11 +3,11 @@ use crate::Ending;
 use crate::Replayed;
 use crate::lending::lend_call;
 use checks::numbers::number_of;
-use effect::Tables;
-use effect::settling::settled_versions;
 use reader::Step;
 use reader::read_call;
+use state::Tables;
 use state::fresh::fresh_desk;
+use state::settling::settled_versions;
 ghost use mathlib.Core.Path.{_≡_};
 ghost use mathlib.Core.Bool.{cond};
 ghost use lib.Dec.{eqb};
@@ -42,7 +42,7 @@ fn ended_at(at: usize, length: usize) -> Ending
     }
 }
 
-// The effect is carried out as `effect::effects::changed` does, here on the desk that is held: a desk that is handed on and given back is copied.
+// The effect is carried out as `state::effects::changed` does, here on the desk that is held: a desk that is handed on and given back is copied.
 // While there is room for an answer the next call is read and handed on with its energies. Without room the next call is not looked at.
 pub fn run_file(
     file: &[u8],

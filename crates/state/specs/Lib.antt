@@ -1,7 +1,9 @@
 pub mod Change
 pub mod Desk
+pub mod Effect
 pub mod Point
 pub mod Selection
+pub mod Settling
 pub mod Status
 pub mod Valid
 pub mod Version

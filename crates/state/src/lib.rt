@@ -1,7 +1,11 @@
-// The desk's state: its points, its versions, what the opening fixed. It goes into a call by value and comes back.
+// The desk's state: its points, its versions, what the opening fixed. It goes into a call by value and comes back. What a call makes of it is an
+// effect: at most one record of a table and what stands beside the tables; a settle goes over the whole version table.
 // The fields of the two tables are narrow, since the state is copied; a number from outside is tested before it is narrowed.
+pub mod changes;
+pub mod effects;
 pub mod fresh;
 pub mod selections;
+pub mod settling;
 pub mod statuses;
 
 use quantity::Day;
@@ -111,4 +115,19 @@ pub enum Selection {
 pub enum Held {
     Absent,
     Has { at: u64, record: VersionRecord },
+}
+
+// What becomes of the two tables: both are made anew, one record of one of them is put, or the versions are settled in a run.
+pub enum Tables {
+    Same,
+    Fresh,
+    Point { at: u64, record: PointRecord },
+    Version { at: u64, record: VersionRecord },
+    Settled { run: u64 },
+}
+
+// What becomes of the tables, and all else of the desk after the call.
+pub struct Effect {
+    pub tables: Tables,
+    pub frame: Frame,
 }

@@ -37,7 +37,7 @@ use Rattle.model.specs.Step.{versionBy}
 use Rattle.model.specs.View.{viewOf}
 use Rattle.model.specs.declared.Due.{Due}
 use Rattle.model.specs.declared.Turn.{Turn}
-use Rattle.model.specs.declared.Verdict.the-variants.{Fine}
+use Rattle.model.specs.declared.Ruling.the-variants.{Fine}
 use Rattle.model.proofs.Rules.{passed}
 use Rattle.amend.proofs.Logs.{room-left}
 use Rattle.submit.specs.Submit.{ownBy, turnBy, submittedIn, Granted}

@@ -21,22 +21,22 @@ use checks::points::is_active;
 use checks::rules::or_if;
 use checks::stores::log_full;
 use checks::stores::other_lengths;
-use effect::Effect;
-use effect::changes::new_version;
-use effect::changes::put_version;
 use model::Cause;
 use model::Due;
+use model::Ruling;
 use model::Turn;
-use model::Verdict;
 use quantity::Day;
 use quantity::PointNo;
 use quantity::Version;
 use state::Desk;
+use state::Effect;
 use state::Frame;
 use state::PointState;
 use state::Row;
 use state::VersionRecord;
 use state::VersionRow;
+use state::changes::new_version;
+use state::changes::put_version;
 use state::selections::raised_if;
 use state::selections::version_of;
 use state::statuses::counts_in;
@@ -50,7 +50,7 @@ ghost use Rattle.quantity.specs.Word.{signed};
 ghost use Rattle.book.specs.Row.{splice};
 ghost use Rattle.state.specs.Desk.{versionsIn};
 ghost use Rattle.state.specs.Valid.{Sound};
-ghost use Rattle.effect.specs.Effect.{changedBy, Fits};
+ghost use Rattle.state.specs.Effect.{changedBy, Fits};
 ghost use Rattle.model.specs.Call.{submits};
 ghost use Rattle.model.specs.Causes.{rules, firstOf, asking as askingFor};
 ghost use Rattle.model.specs.Log.{due as dueOf};
@@ -88,7 +88,7 @@ pub fn submit_turn(f: Frame, s: Survey, version: Version, day: Day) -> Turn
 }
 
 // The table's lines for a submission, in their order.
-fn submit_checks(
+fn submit_ruling(
     d: Desk,
     l: Look,
     due: Due,
@@ -97,7 +97,7 @@ fn submit_checks(
     day: Day,
     series: &[u64],
     n: Sizes,
-) -> Verdict
+) -> Ruling
     requires { ⌜ Sound d ⌝ }
     requires { ⌜ Looked d (askingFor (point .0) (version .0) 0 0 0) l ⌝ }
     requires { ⌜ length (versionsIn d) ≡ d .frame .count ⌝ }
@@ -110,7 +110,7 @@ fn submit_checks(
     let found = l.survey;
     let held = found.held;
     let highest = found.highest;
-    let k0 = or_if(Verdict::Fine, !is_open(o), Cause::NotOpen);
+    let k0 = or_if(Ruling::Fine, !is_open(o), Cause::NotOpen);
     let k1 = or_if(k0, other_lengths(o, n), Cause::WrongLength);
     let k2 = or_if(
         k1,
@@ -191,10 +191,10 @@ pub fn decide_submit(
     let found = l.survey;
     let turn = submit_turn(f, found, version, day);
     let due = due_by(turn, point, day);
-    let verdict = submit_checks(d, l, due, point, version, day, series, n);
-    match verdict {
-        Verdict::Refuse(c) => refuse(f, c),
-        Verdict::Fine => {
+    let ruling = submit_ruling(d, l, due, point, version, day, series, n);
+    match ruling {
+        Ruling::Refuse(c) => refuse(f, c),
+        Ruling::Fine => {
             let here = l.here;
             let opening = f.opening;
             let v = new_version(opening.first, f.count, point, version, day);

@@ -9,8 +9,8 @@ use borrow.Author.Needs.{needs}
 use Rattle.calls.proofs.activate.decide_activate.Statement.{statement}
 use Rattle.calls.proofs.activate.decide_activate.Tie as tie
 
-activate-verdict-requires : tie.Need-activate-verdict-requires
-activate-verdict-requires c κs = search needs
+activate-ruling-requires : tie.Need-activate-ruling-requires
+activate-ruling-requires c κs = search needs
 
 enum-known-v : tie.Need-enum-known-v
 enum-known-v c = search needs
@@ -24,14 +24,14 @@ enum-told c = search needs
 active-record-requires : tie.Need-active-record-requires
 active-record-requires c κs =
     let a = c .before .before .before .before .args in
-    let h = allowed _ _ (sym (c .before .before .activate-verdict .ensures noLengths) ∙ c .enum-told .given .1) in
+    let h = allowed _ _ (sym (c .before .before .activate-ruling .ensures noLengths) ∙ c .enum-told .given .1) in
     let fields = and-right (pointOk (a .point .0)) _ (not-false _ (h .1 .1 .0)) in
     (and-right (dayOk (a .day .0)) _ fields, and-left (dayOk (a .day .0)) _ fields)
 
 put-point-requires : tie.Need-put-point-requires
 put-point-requires c κs =
     let a = c .before .before .before .before .before .args in
-    let h = allowed _ _ (sym (c .before .before .before .activate-verdict .ensures noLengths) ∙ c .before .enum-told .given .1) in
+    let h = allowed _ _ (sym (c .before .before .before .activate-ruling .ensures noLengths) ∙ c .before .enum-told .given .1) in
     and-left (pointOk (a .point .0)) _ (not-false _ (h .1 .1 .0))
 
 accept-requires : tie.Need-accept-requires
@@ -40,14 +40,14 @@ accept-requires c κs = search needs
 returns : tie.Need-returns
 returns c =
     let u = unmoved _ (c .refuse .ensures) in
-    (u .0, λ s. answer-refused _ _ s (c .before .before .before .before .activate-verdict .ensures (lengthsOf s)) (c .before .before .v .given .1) (u .1))
+    (u .0, λ s. answer-refused _ _ s (c .before .before .before .before .activate-ruling .ensures (lengthsOf s)) (c .before .before .v .given .1) (u .1))
 
 returns-2 : tie.Need-returns-2
 returns-2 c =
     let k = c .accept .ensures in
     let p = c .before .put-point .ensures (c .before .before .before .before .before .before .before .args .d) refl in (
       rw (k .1) (p .0),
-      λ s. answer-granted _ _ s (c .before .before .before .before .before .activate-verdict .ensures (lengthsOf s)) (c .before .before .before .enum-told .given .1)
+      λ s. answer-granted _ _ s (c .before .before .before .before .before .activate-ruling .ensures (lengthsOf s)) (c .before .before .before .enum-told .given .1)
           (record { answered = k .0; held = rw (k .1) (p .1 ∙ rw (c .before .before .active-record .ensures)) }),
     )
 
@@ -55,7 +55,7 @@ pub decide-activate-spec : {M : Type 1} → statement M
 decide-activate-spec =
     tie.close
     (tie.spec
-    activate-verdict-requires
+    activate-ruling-requires
     enum-known-v
     refuse-requires
     enum-told

@@ -10,8 +10,8 @@ use borrow.Author.Needs.{needs}
 use Rattle.calls.proofs.assign.decide_assign.Statement.{statement}
 use Rattle.calls.proofs.assign.decide_assign.Tie as tie
 
-assign-verdict-requires : tie.Need-assign-verdict-requires
-assign-verdict-requires c κs = search needs
+assign-ruling-requires : tie.Need-assign-ruling-requires
+assign-ruling-requires c κs = search needs
 
 enum-known-v : tie.Need-enum-known-v
 enum-known-v c = search needs
@@ -25,7 +25,7 @@ enum-told c = search needs
 assigned-requires : tie.Need-assigned-requires
 assigned-requires c κs =
     let a = c .before .before .before .before .before .before .args in
-    let h = allowed _ _ (sym (c .before .before .before .assign-verdict .ensures noLengths) ∙ c .before .enum-told .given .1) in
+    let h = allowed _ _ (sym (c .before .before .before .assign-ruling .ensures noLengths) ∙ c .before .enum-told .given .1) in
     let fields = not-false _ (h .1 .1 .1 .0) in
     (sound _ (not-false _ (h .0)), ((and-left (deltaOk (a .area)) _ fields, and-left (groupOk (a .group)) _ (and-right (deltaOk (a .area)) _ fields)), book-same _ _ (h .1 .1 .0)))
 
@@ -35,7 +35,7 @@ accept-requires c κs = search needs
 returns : tie.Need-returns
 returns c =
     let u = unmoved _ (c .refuse .ensures) in
-    (u .0, λ s. book-refused _ _ _ (c .before .before .before .before .assign-verdict .ensures (lengthsOf s)) (c .before .before .v .given .1) (u .1))
+    (u .0, λ s. book-refused _ _ _ (c .before .before .before .before .assign-ruling .ensures (lengthsOf s)) (c .before .before .v .given .1) (u .1))
 
 same-length : tie.Need-same-length
 same-length c = search needs
@@ -45,7 +45,7 @@ returns-2 c =
     let k = c .accept .ensures in
     let e = c .before .before .before .assigned .ensures in (
       rw (k .1) (e .0),
-      λ s. book-granted _ _ _ (c .before .before .before .before .before .before .before .assign-verdict .ensures (lengthsOf s)) (c .before .before .before .before .before .enum-told .given .1)
+      λ s. book-granted _ _ _ (c .before .before .before .before .before .before .before .assign-ruling .ensures (lengthsOf s)) (c .before .before .before .before .before .enum-told .given .1)
           (rw (k .0, k .1) (e .1 s)),
     )
 
@@ -53,7 +53,7 @@ pub decide-assign-spec : {M : Type 1} → statement M
 decide-assign-spec =
     tie.close
     (tie.spec
-    assign-verdict-requires
+    assign-ruling-requires
     enum-known-v
     refuse-requires
     enum-told

@@ -9,8 +9,8 @@ use borrow.Author.Needs.{needs}
 use Rattle.calls.proofs.deactivate.decide_deactivate.Statement.{statement}
 use Rattle.calls.proofs.deactivate.decide_deactivate.Tie as tie
 
-deactivate-verdict-requires : tie.Need-deactivate-verdict-requires
-deactivate-verdict-requires c κs = search needs
+deactivate-ruling-requires : tie.Need-deactivate-ruling-requires
+deactivate-ruling-requires c κs = search needs
 
 enum-known-v : tie.Need-enum-known-v
 enum-known-v c = search needs
@@ -24,7 +24,7 @@ enum-told c = search needs
 put-point-requires : tie.Need-put-point-requires
 put-point-requires c κs =
     let a = c .before .before .before .before .args in
-    let h = allowed _ _ (sym (c .before .before .deactivate-verdict .ensures noLengths) ∙ c .enum-told .given .1) in
+    let h = allowed _ _ (sym (c .before .before .deactivate-ruling .ensures noLengths) ∙ c .enum-told .given .1) in
     and-left (pointOk (a .point .0)) _ (not-false _ (h .1 .1 .0))
 
 accept-requires : tie.Need-accept-requires
@@ -33,14 +33,14 @@ accept-requires c κs = search needs
 returns : tie.Need-returns
 returns c =
     let u = unmoved _ (c .refuse .ensures) in
-    (u .0, λ s. answer-refused _ _ s (c .before .before .before .before .deactivate-verdict .ensures (lengthsOf s)) (c .before .before .v .given .1) (u .1))
+    (u .0, λ s. answer-refused _ _ s (c .before .before .before .before .deactivate-ruling .ensures (lengthsOf s)) (c .before .before .v .given .1) (u .1))
 
 returns-2 : tie.Need-returns-2
 returns-2 c =
     let k = c .accept .ensures in
     let p = c .before .put-point .ensures (c .before .before .before .before .before .before .args .d) refl in (
       rw (k .1) (p .0),
-      λ s. answer-granted _ _ s (c .before .before .before .before .deactivate-verdict .ensures (lengthsOf s)) (c .before .before .enum-told .given .1)
+      λ s. answer-granted _ _ s (c .before .before .before .before .deactivate-ruling .ensures (lengthsOf s)) (c .before .before .enum-told .given .1)
           (record { answered = k .0; held = rw (k .1) (p .1) }),
     )
 
@@ -48,7 +48,7 @@ pub decide-deactivate-spec : {M : Type 1} → statement M
 decide-deactivate-spec =
     tie.close
     (tie.spec
-    deactivate-verdict-requires
+    deactivate-ruling-requires
     enum-known-v
     refuse-requires
     enum-told

@@ -8,8 +8,8 @@ use borrow.Author.Needs.{needs}
 use Rattle.calls.proofs.open.decide_open.Statement.{statement}
 use Rattle.calls.proofs.open.decide_open.Tie as tie
 
-open-verdict-requires : tie.Need-open-verdict-requires
-open-verdict-requires c κs = search needs
+open-ruling-requires : tie.Need-open-ruling-requires
+open-ruling-requires c κs = search needs
 
 enum-known-v : tie.Need-enum-known-v
 enum-known-v c = search needs
@@ -32,7 +32,7 @@ accept-requires c κs = search needs
 returns : tie.Need-returns
 returns c =
     let u = unmoved _ (c .refuse .ensures) in
-    (u .0, λ s. all-refused _ _ _ (c .before .before .before .before .open-verdict .ensures) (c .before .before .v .given .1) (u .1))
+    (u .0, λ s. all-refused _ _ _ (c .before .before .before .before .open-ruling .ensures) (c .before .before .v .given .1) (u .1))
 
 same-length : tie.Need-same-length
 same-length c = search needs
@@ -41,7 +41,7 @@ returns-2 : tie.Need-returns-2
 returns-2 c =
     let k = c .accept .ensures in
     let p = c .before .open-desk .ensures (c .before .before .before .before .before .before .before .before .before .before .before .before .before .args .d) in
-    let v = c .before .before .before .before .before .before .before .before .open-verdict .ensures in
+    let v = c .before .before .before .before .before .before .before .before .open-ruling .ensures in
     let e = c .before .before .before .before .before .before .enum-told .given .1 in
     let h = allowed _ _ (sym v ∙ e) in (
       rw (k .1) (p .0),
@@ -59,7 +59,7 @@ pub decide-open-spec : {M : Type 1} → statement M
 decide-open-spec =
     tie.close
     (tie.spec
-    open-verdict-requires
+    open-ruling-requires
     enum-known-v
     refuse-requires
     enum-told

@@ -7,8 +7,8 @@ use borrow.Author.Needs.{needs}
 use Rattle.calls.proofs.settle.decide_settle.Statement.{statement}
 use Rattle.calls.proofs.settle.decide_settle.Tie as tie
 
-settle-verdict-requires : tie.Need-settle-verdict-requires
-settle-verdict-requires c κs = search needs
+settle-ruling-requires : tie.Need-settle-ruling-requires
+settle-ruling-requires c κs = search needs
 
 enum-known-v : tie.Need-enum-known-v
 enum-known-v c = search needs
@@ -28,15 +28,15 @@ accept-requires c κs = search needs
 returns : tie.Need-returns
 returns c =
     let u = unmoved _ (c .refuse .ensures) in
-    (u .0, λ s. answer-refused _ _ s (c .before .before .before .before .settle-verdict .ensures (lengthsOf s)) (c .before .before .v .given .1) (u .1))
+    (u .0, λ s. answer-refused _ _ s (c .before .before .before .before .settle-ruling .ensures (lengthsOf s)) (c .before .before .v .given .1) (u .1))
 
 returns-2 : tie.Need-returns-2
 returns-2 c =
     let k = c .accept .ensures in
-    let h = allowed _ _ (sym (c .before .before .before .before .settle-verdict .ensures noLengths) ∙ c .before .before .enum-told .given .1) in
+    let h = allowed _ _ (sym (c .before .before .before .before .settle-ruling .ensures noLengths) ∙ c .before .before .enum-told .given .1) in
     let e = c .before .settle-run .ensures (c .before .before .before .before .before .before .args .d) refl (not-false _ (h .0)) in (
       rw (k .1) (e .0),
-      λ s. answer-granted _ _ s (c .before .before .before .before .settle-verdict .ensures (lengthsOf s)) (c .before .before .enum-told .given .1)
+      λ s. answer-granted _ _ s (c .before .before .before .before .settle-ruling .ensures (lengthsOf s)) (c .before .before .enum-told .given .1)
           (record { answered = k .0; held = rw (k .1) (e .1) }),
     )
 
@@ -44,7 +44,7 @@ pub decide-settle-spec : {M : Type 1} → statement M
 decide-settle-spec =
     tie.close
     (tie.spec
-    settle-verdict-requires
+    settle-ruling-requires
     enum-known-v
     refuse-requires
     enum-told

@@ -7,8 +7,8 @@ use borrow.Author.Needs.{needs}
 use Rattle.calls.proofs.show.show_number.Statement.{statement}
 use Rattle.calls.proofs.show.show_number.Tie as tie
 
-show-verdict-requires : tie.Need-show-verdict-requires
-show-verdict-requires c κs = search needs
+show-ruling-requires : tie.Need-show-ruling-requires
+show-ruling-requires c κs = search needs
 
 enum-known-v : tie.Need-enum-known-v
 enum-known-v c = search needs
@@ -17,11 +17,11 @@ enum-told : tie.Need-enum-told
 enum-told c = search needs
 
 returns : tie.Need-returns
-returns c s = ap (λ (o : Outcome). o .answer) (sym (refused _ _ _ (c .before .before .before .show-verdict .ensures (lengthsOf s)) (c .before .v .given .1)))
+returns c s = ap (λ (o : Outcome). o .answer) (sym (refused _ _ _ (c .before .before .before .show-ruling .ensures (lengthsOf s)) (c .before .v .given .1)))
 
 returns-2 : tie.Need-returns-2
-returns-2 c s = ap (λ (o : Outcome). o .answer) (sym (granted _ _ _ (c .before .before .show-verdict .ensures (lengthsOf s)) (c .enum-told .given .1)))
+returns-2 c s = ap (λ (o : Outcome). o .answer) (sym (granted _ _ _ (c .before .before .show-ruling .ensures (lengthsOf s)) (c .enum-told .given .1)))
 
 pub show-number-spec : {M : Type 1} → statement M
 show-number-spec =
-    tie.close (tie.spec show-verdict-requires enum-known-v enum-told returns returns-2)
+    tie.close (tie.spec show-ruling-requires enum-known-v enum-told returns returns-2)

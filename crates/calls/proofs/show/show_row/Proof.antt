@@ -15,15 +15,15 @@ use Rattle.calls.proofs.show.show_row.Tie as tie
 known : (c : tie.After-opening) → let a = c .before .before .before .before .before .before .args in Showable (a .d) (a .run) (a .group) (length (a .book .now))
 known c =
     let size = length (c .before .before .before .before .before .before .args .book .now) in
-    showable _ _ _ (withBookLength noLengths size) (sym (c .before .before .before .before .show-verdict .ensures noLengths) ∙ c .before .before .enum-told .given .1)
+    showable _ _ _ (withBookLength noLengths size) (sym (c .before .before .before .before .show-ruling .ensures noLengths) ∙ c .before .before .enum-told .given .1)
 
 ends : (c : tie.After-row-start) → let a = c .before .before .before .before .before .before .before .args in c .row-start .result + a .d .frame .opening .quarters ≤ length (a .book .now)
 ends c =
     let k = known (c .before) in
     row-ends k (c .row-start .ensures) (omega (arith, k .most))
 
-show-verdict-requires : tie.Need-show-verdict-requires
-show-verdict-requires c κs = search needs
+show-ruling-requires : tie.Need-show-ruling-requires
+show-ruling-requires c κs = search needs
 
 enum-told : tie.Need-enum-told
 enum-told c = search needs
@@ -41,7 +41,7 @@ part-result-end : tie.Need-part-result-end
 part-result-end c = search needs
 
 returns : tie.Need-returns
-returns c s = ap (λ (o : Outcome). o .part) (sym (refused _ _ _ (c .before .before .before .show-verdict .ensures (lengthsOf s)) (c .before .enum-told2 .given .1)))
+returns c s = ap (λ (o : Outcome). o .part) (sym (refused _ _ _ (c .before .before .before .show-ruling .ensures (lengthsOf s)) (c .before .enum-told2 .given .1)))
 
 sub-row-start : tie.Need-sub-row-start
 sub-row-start c = omega (arith, known c .some)
@@ -69,13 +69,13 @@ part-result-end-2 c = omega (arith, ends c)
 returns-2 : tie.Need-returns-2
 returns-2 c s =
     row-part _ _ _ _ _ (c .before .row-start .ensures)
-    ∙ ap (λ (o : Outcome). o .part) (sym (granted _ _ _ (c .before .before .before .before .before .before .show-verdict .ensures (lengthsOf s)) (c .before .before .before .before .enum-told .given .1)))
+    ∙ ap (λ (o : Outcome). o .part) (sym (granted _ _ _ (c .before .before .before .before .before .before .show-ruling .ensures (lengthsOf s)) (c .before .before .before .before .enum-told .given .1)))
 
 pub show-row-spec : {M : Type 1} → statement M
 show-row-spec =
     tie.close
     (tie.spec
-    show-verdict-requires
+    show-ruling-requires
     enum-told
     enum-told-2
     sub-result

@@ -12,8 +12,8 @@ asking-requires c κs = search needs
 look-requires : tie.Need-look-requires
 look-requires c κs = search needs
 
-status-verdict-requires : tie.Need-status-verdict-requires
-status-verdict-requires c κs = rw (c .before .before .asking .ensures) at (c .before .look .ensures)
+status-ruling-requires : tie.Need-status-ruling-requires
+status-ruling-requires c κs = rw (c .before .before .asking .ensures) at (c .before .look .ensures)
 
 enum-known-v : tie.Need-enum-known-v
 enum-known-v c = search needs
@@ -25,12 +25,12 @@ status-answer-requires : tie.Need-status-answer-requires
 status-answer-requires c κs = search needs
 
 returns : tie.Need-returns
-returns c s = answer-refused _ _ s (c .before .before .before .status-verdict .ensures (lengthsOf s)) (c .before .v .given .1) (refl, refl)
+returns c s = answer-refused _ _ s (c .before .before .before .status-ruling .ensures (lengthsOf s)) (c .before .v .given .1) (refl, refl)
 
 returns-2 : tie.Need-returns-2
 returns-2 c s =
     let l = rw (c .before .before .before .before .before .before .asking .ensures) at (c .before .before .before .before .before .look .ensures) in
-    answer-granted _ _ s (c .before .before .before .status-verdict .ensures (lengthsOf s)) (c .before .enum-told .given .1)
+    answer-granted _ _ s (c .before .before .before .status-ruling .ensures (lengthsOf s)) (c .before .enum-told .given .1)
     (record { answered = rw (c .status-answer .ensures, l .survey .held); held = refl })
 
 pub status-spec : {M : Type 1} → statement M
@@ -39,7 +39,7 @@ status-spec =
     (tie.spec
     asking-requires
     look-requires
-    status-verdict-requires
+    status-ruling-requires
     enum-known-v
     enum-told
     status-answer-requires

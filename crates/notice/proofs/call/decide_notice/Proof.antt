@@ -53,8 +53,8 @@ notice-turn-requires c κs = search needs
 due-by-requires : tie.Need-due-by-requires
 due-by-requires c κs = search needs
 
-notice-checks-requires : tie.Need-notice-checks-requires
-notice-checks-requires c κs =
+notice-ruling-requires : tie.Need-notice-ruling-requires
+notice-ruling-requires c κs =
     let s = c .before .before .before .before .before .before .before .before .before in
     (sound (s .args .d) (valid (c .before .before .before)), (s .pre, due-is c))
 
@@ -72,7 +72,7 @@ notice-granted-requires c κs =
     let s = c .before .before .before .before .before .before .before .before .before .before .before .before .before .before in
     let a = s .args in
     notice-allowed (a .d) (a .point .0) (a .version .0) (a .verdict) (a .day .0) (a .values .now) (a .book .now) (a .log .now) _ _ _ (sound (a .d) (valid (c .before .before .before .before .before .before .before .before))) (s .pre .table) (s .pre .survey .held) (turn-is (c .before .before .before .before .before .before)) (due-is (c .before .before .before .before .before)) (s .pre .here)
-    (sym (c .before .before .before .before .notice-checks .ensures) ∙ c .before .before .enum-told .given .1)
+    (sym (c .before .before .before .before .notice-ruling .ensures) ∙ c .before .before .enum-told .given .1)
 
 accept-requires : tie.Need-accept-requires
 accept-requires c κs = search needs
@@ -85,7 +85,7 @@ returns-2 c =
       u .0,
       λ s.
           let stores = storing s (a .values .now) (a .book .now) (a .log .now) in
-          all-refused (a .d) call stores (c .before .before .before .before .notice-checks .ensures ∙ sym (fit (a .d) (told (lent call stores)) refl (valid (c .before .before .before .before .before .before .before .before)))) (c .before .before .decided .given .1) (u .1),
+          all-refused (a .d) call stores (c .before .before .before .before .notice-ruling .ensures ∙ sym (fit (a .d) (told (lent call stores)) refl (valid (c .before .before .before .before .before .before .before .before)))) (c .before .before .decided .given .1) (u .1),
     )
 
 same-length : tie.Need-same-length
@@ -105,7 +105,7 @@ returns-3 c =
       g .fits,
       λ s.
           let stores = storing s (a .values .now) (a .book .now) (a .log .now) in
-          all-granted (a .d) call stores (c .before .before .before .before .before .before .before .before .before .before .notice-checks .ensures ∙ sym (fit (a .d) (told (lent call stores)) refl (valid (c .before .before .before .before .before .before .before .before .before .before .before .before .before .before)))) (c .before .before .before .before .before .before .before .before .enum-told .given .1) stepped,
+          all-granted (a .d) call stores (c .before .before .before .before .before .before .before .before .before .before .notice-ruling .ensures ∙ sym (fit (a .d) (told (lent call stores)) refl (valid (c .before .before .before .before .before .before .before .before .before .before .before .before .before .before)))) (c .before .before .before .before .before .before .before .before .enum-told .given .1) stepped,
     )
 
 pub decide-notice-spec : {M : Type 1} → statement M
@@ -116,7 +116,7 @@ decide-notice-spec =
     returns
     notice-turn-requires
     due-by-requires
-    notice-checks-requires
+    notice-ruling-requires
     enum-known-decided
     refuse-requires-2
     enum-told

@@ -5,9 +5,9 @@ use mathlib.Core.Logic.{⊎-elim}
 use native.Mathlib.Omega.{arith}
 use lib.ListN.{length, length-set}
 use Rattle.state.proofs.Bounds.{sound}
-use Rattle.effect.specs.Effect.{pointsBy, versionsBy}
-use Rattle.effect.proofs.Applied.{applied}
-use Rattle.effect.proofs.TopVersions.{points-in}
+use Rattle.state.specs.Effect.{pointsBy, versionsBy}
+use Rattle.state.proofs.Applied.{applied}
+use Rattle.state.proofs.TopVersions.{points-in}
 use Rattle.checks.specs.Stepped.{storesOf}
 use Rattle.reader.specs.declared.Reading.{Reading}
 use Rattle.replay.specs.Play.{starting}

@@ -40,7 +40,7 @@ passed c =
     let s = c .before .before .before .before .before .before .before .before .before .before .before .before .before in
     let a = s .args in
     submit-allowed (a .d) (a .point .0) (a .version .0) (a .day .0) (a .series .now) (a .values .now) (a .book .now) (a .log .now) _ _ (sound (a .d) (valid (c .before .before .before .before .before .before))) (s .pre .table) (turn-is (c .before .before .before .before)) (due-is (c .before .before .before))
-    (sym (c .before .before .submit-checks .ensures) ∙ c .enum-told .given .1) (s .pre .here)
+    (sym (c .before .before .submit-ruling .ensures) ∙ c .enum-told .given .1) (s .pre .here)
 
 refuse-requires : tie.Need-refuse-requires
 refuse-requires c κs = search needs
@@ -63,15 +63,15 @@ submit-turn-requires c κs = sound (c .before .before .before .before .before .b
 due-by-requires : tie.Need-due-by-requires
 due-by-requires c κs = search needs
 
-submit-checks-requires : tie.Need-submit-checks-requires
-submit-checks-requires c κs =
+submit-ruling-requires : tie.Need-submit-ruling-requires
+submit-ruling-requires c κs =
     let s = c .before .before .before .before .before .before .before .before .before .before in
     let d = s .args .d in
     let sd = sound d (valid (c .before .before .before)) in
     (sd, (s .pre, (length-held d (sd .count) (s .pre .table), due-is c)))
 
-enum-known-verdict : tie.Need-enum-known-verdict
-enum-known-verdict c = search needs
+enum-known-ruling : tie.Need-enum-known-ruling
+enum-known-ruling c = search needs
 
 refuse-requires-2 : tie.Need-refuse-requires-2
 refuse-requires-2 c κs = search needs
@@ -98,7 +98,7 @@ returns-2 c =
       u .0,
       λ s.
           let stores = storing s (a .values .now) (a .book .now) (a .log .now) in
-          all-refused (a .d) call stores (c .before .before .before .before .submit-checks .ensures ∙ sym (fit (a .d) (told (lent call stores)) refl (valid (c .before .before .before .before .before .before .before .before)))) (c .before .before .verdict .given .1) (u .1),
+          all-refused (a .d) call stores (c .before .before .before .before .submit-ruling .ensures ∙ sym (fit (a .d) (told (lent call stores)) refl (valid (c .before .before .before .before .before .before .before .before)))) (c .before .before .ruling .given .1) (u .1),
     )
 
 same-length : tie.Need-same-length
@@ -119,7 +119,7 @@ returns-3 c =
       g .0,
       λ s.
           let stores = storing s (a .values .now) (a .book .now) (a .log .now) in
-          all-granted (a .d) call stores (c .before .before .before .before .before .before .before .before .before .before .before .before .before .before .before .submit-checks .ensures ∙ sym (fit (a .d) (told (lent call stores)) refl (valid (c .before .before .before .before .before .before .before .before .before .before .before .before .before .before .before .before .before .before .before)))) (c .before .before .before .before .before .before .before .before .before .before .before .before .before .enum-told .given .1) (g .1),
+          all-granted (a .d) call stores (c .before .before .before .before .before .before .before .before .before .before .before .before .before .before .before .submit-ruling .ensures ∙ sym (fit (a .d) (told (lent call stores)) refl (valid (c .before .before .before .before .before .before .before .before .before .before .before .before .before .before .before .before .before .before .before)))) (c .before .before .before .before .before .before .before .before .before .before .before .before .before .enum-told .given .1) (g .1),
     )
 
 pub decide-submit-spec : {M : Type 1} → statement M
@@ -130,8 +130,8 @@ decide-submit-spec =
     returns
     submit-turn-requires
     due-by-requires
-    submit-checks-requires
-    enum-known-verdict
+    submit-ruling-requires
+    enum-known-ruling
     refuse-requires-2
     enum-told
     new-version-requires

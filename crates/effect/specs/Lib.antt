@@ -1,2 +1,0 @@
-pub mod Effect
-pub mod Settling
