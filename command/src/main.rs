@@ -4,12 +4,13 @@
 mod arguments;
 mod calls;
 mod causes;
-mod csv;
+
 mod help;
 mod input;
 mod library;
 mod lists;
 mod month;
+mod numbers;
 mod output;
 mod page;
 mod refusals;

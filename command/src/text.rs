@@ -5,8 +5,8 @@ use std::path::Path;
 
 use crate::arguments::Wanted;
 use crate::calls::{Call, Place, DELTAS, KINDS, OPEN, SUBMIT};
-use crate::csv::{self, quoted, Unit};
 use crate::library::{self, Read, Reader};
+use crate::numbers::{self, quoted, Unit};
 use crate::output::{self, Failure};
 use crate::{causes, input, ACCEPTED, NOTHING, REFUSED};
 
@@ -68,7 +68,7 @@ impl<'a> Given<'a> {
         }
         values
             .iter()
-            .map(|(name, value)| csv::field(name, value.unwrap_or("")))
+            .map(|(name, value)| numbers::field(name, value.unwrap_or("")))
             .collect()
     }
 }
@@ -97,7 +97,7 @@ fn call_of(words: &[&str], folder: &Path) -> Result<(u64, Vec<u64>, Vec<u64>), S
         OPEN => {
             let others = given.take("others");
             if let Some(word) = others {
-                csv::field("others", word)?;
+                numbers::field("others", word)?;
             }
             Ok((
                 kind,
@@ -112,7 +112,7 @@ fn call_of(words: &[&str], folder: &Path) -> Result<(u64, Vec<u64>, Vec<u64>), S
             let Some(series) = series else {
                 return Err(fields.err().unwrap_or("submit lacks energies".to_string()));
             };
-            Ok((kind, fields?, csv::energies(series, unit, folder)?))
+            Ok((kind, fields?, numbers::energies(series, unit, folder)?))
         }
         _ => Ok((kind, given.numbers(form.fields, None, "")?, Vec::new())),
     }

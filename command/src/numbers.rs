@@ -29,9 +29,7 @@ fn grouped(word: &str) -> bool {
     let digits = word.strip_prefix('-').unwrap_or(word);
     let parts: Vec<&str> = digits.split(['.', ',', '\'', '_', '\u{a0}']).collect();
     let whole = |part: &&str| !part.is_empty() && part.bytes().all(|byte| byte.is_ascii_digit());
-    parts.len() > 1
-        && parts.iter().all(|part| whole(&part))
-        && parts[1..].iter().all(|part| part.len() == 3)
+    parts.len() > 1 && parts.iter().all(whole) && parts[1..].iter().all(|part| part.len() == 3)
 }
 
 /// The whole number of a word of digits, perhaps with a minus; None where it is none.
@@ -190,36 +188,62 @@ fn cell(word: &str) -> &str {
         .unwrap_or(word)
 }
 
+/// Where a column stands: the mark between cells, and its place.
+struct Column {
+    mark: char,
+    at: usize,
+}
+
+impl Column {
+    /// By its name in a header.
+    fn named(name: &str, header: &str) -> Result<Column, String> {
+        let mark = if header.contains(';') { ';' } else { ',' };
+        let names: Vec<&str> = header.split(mark).map(cell).collect();
+        let at = names.iter().position(|other| *other == name);
+        let known = || {
+            format!(
+                "has no column {}; its columns are {}",
+                quoted(name),
+                names.join(", ")
+            )
+        };
+        Ok(Column {
+            mark,
+            at: at.ok_or_else(known)?,
+        })
+    }
+
+    fn of<'a>(&self, line: &'a str) -> Result<&'a str, String> {
+        let found = line.split(self.mark).nth(self.at);
+        found.map(cell).ok_or("ends before the column".to_string())
+    }
+}
+
+/// The energies of a file: `FILE` with a number a line, or `FILE:COLUMN`.
 fn from_file(source: &str, unit: Unit, folder: &Path) -> Result<Vec<u64>, String> {
     let (name, column) = match source.rsplit_once(':') {
         Some((name, column)) => (name, Some(column)),
         None => (source, None),
     };
     let lines = lines(name, folder)?;
-    let mut numbered = lines.iter().enumerate();
-    let mut pick: Box<dyn Fn(&str) -> Option<String>> =
-        Box::new(|line| Some(cell(line).to_string()));
-    if let Some(column) = column {
-        let header = numbered.next().map(|(_, line)| line.as_str()).unwrap_or("");
-        let mark = if header.contains(';') { ';' } else { ',' };
-        let names: Vec<&str> = header.split(mark).map(cell).collect();
-        let Some(at) = names.iter().position(|name| *name == column) else {
-            return Err(format!(
-                "{name}: line 1: has no column {}; its columns are {}",
-                quoted(column),
-                names.join(", ")
-            ));
-        };
-        pick = Box::new(move |line| line.split(mark).nth(at).map(|word| cell(word).to_string()));
-    }
-    let mut series = Vec::new();
-    for (at, line) in numbered {
-        let word =
-            pick(line).ok_or_else(|| format!("{name}: line {}: ends before the column", at + 1))?;
-        series.push(
-            energy(&word, unit).map_err(|wrong| format!("{name}: line {}: {wrong}", at + 1))?,
-        );
-    }
+    let mut numbered = lines.iter().map(String::as_str).zip(1..);
+    let column = match column {
+        Some(column) => {
+            let header = numbered.next().map_or("", |(line, _)| line);
+            Some(
+                Column::named(column, header)
+                    .map_err(|wrong| format!("{name}: line 1: {wrong}"))?,
+            )
+        }
+        None => None,
+    };
+    let number = |line| match &column {
+        Some(column) => energy(column.of(line)?, unit),
+        None => energy(cell(line), unit),
+    };
+    let series: Vec<u64> = numbered
+        .map(|(line, at)| number(line).map_err(|wrong| format!("{name}: line {at}: {wrong}")))
+        .collect::<Result<_, _>>()?;
     few(series.len()).map_err(|wrong| format!("{name}: {wrong}"))?;
     Ok(series)
 }
