@@ -404,7 +404,7 @@ fn version_status(month: &Month) -> Limits {
     of_version(month, 3, &[1, 2, 3, 4, 5], &[])
 }
 
-/// Records at and past the count are nobody's.
+/// Records at and past the count are unused.
 fn unused_version(month: &Month) -> Limits {
     let unused = [month.rows.len() as u64, 511];
     let unused = unused
