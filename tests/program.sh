@@ -359,7 +359,7 @@ END
     chmod +x "$copy/bin/rt"
     echo 'the one' >"$copy/toolchain.txt"
     touch -d '2001-01-01' "$copy/target/bin/emorizugu"
-    ln -s "$(command -v touch)" "$copy/bin/touch"
+    for tool in awk basename date grep sleep sort touch; do ln -s "$(command -v "$tool")" "$copy/bin/$tool"; done
     expect 'run: another toolchain' 0 env PATH="$copy/bin" "$copy/run" "$copy/examples/kind.msg" <<END
 1 0
 2 0

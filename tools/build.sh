@@ -83,10 +83,10 @@ under_way() { # time, log
     done
 }
 
-# Says how far a proof is, until it ends: on a terminal one line that is renewed, else a line where there is something new.
+# Says each second how far a proof is, until it ends: on a terminal one line that is renewed, else a line where there is something new.
 follow() { # process, time it began, log, how many crates
     local shown='' now crates
-    while kill -0 "$1" 2>/dev/null; do
+    while sleep 1 && kill -0 "$1" 2>/dev/null; do
         crates=$(under_way "$2" "$3")
         now="$(grep -c '^rt: .* proved (' "$3") of $4 crates proved${crates:+, at work on$crates}"
         if [ -t 2 ]; then
@@ -95,7 +95,6 @@ follow() { # process, time it began, log, how many crates
             say "$now; $SECONDS s"
         fi
         shown=$now
-        sleep 1
     done
     [ ! -t 2 ] || printf '\r\033[K' >&2
 }
