@@ -35,6 +35,7 @@ pub record Places : Type 0 where
   pub points : List ℕ
   pub versions : List ℕ
 
+-- the same of its parts
 abbrev pub placesOf : (report points versions : List ℕ) → Places
 placesOf r p v = record { report = r; points = p; versions = v }
 
@@ -42,10 +43,11 @@ placesOf r p v = record { report = r; points = p; versions = v }
 abbrev pub reportPlaces : ℕ
 reportPlaces = 10
 
--- for a report, for every point and for every version that a desk can hold
+-- whether there are places enough: for a report, for every point and for every version that a desk can hold
 abbrev pub fits : (report points versions : ℕ) → Bool
 fits r p v = leb reportPlaces r && (leb pointsPlaces p && leb versionsPlaces v)
 
+-- the same of the places lent
 abbrev pub fitting : Places → Bool
 fitting p = fits (length (p .report)) (length (p .points)) (length (p .versions))
 

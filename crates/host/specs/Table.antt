@@ -19,17 +19,19 @@ unfoldable pub rowsTo : ℕ → (ℕ → List ℕ) → List ℕ
 rowsTo zero f = []
 rowsTo (suc n) f = rowsTo n f ++ f n
 
--- how many numbers a point has, and how many a version
+-- how many numbers a point has
 abbrev pub pointNumbers : ℕ
 pointNumbers = 7
 
+-- how many numbers a version has
 abbrev pub versionNumbers : ℕ
 versionNumbers = 4
 
--- places for every point, and for every version that a desk can hold
+-- places for every point
 abbrev pub pointsPlaces : ℕ
 pointsPlaces = pointNumbers * points
 
+-- places for every version that a desk can hold
 abbrev pub versionsPlaces : ℕ
 versionsPlaces = versionNumbers * versions
 
