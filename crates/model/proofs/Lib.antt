@@ -1,8 +1,8 @@
+pub mod Afterwards
 pub mod Amends
 pub mod Assign
 pub mod Books
 pub mod CauseLaws
-pub mod CauseNumbers
 pub mod ChangeLaws
 pub mod Changing
 pub mod Corollaries
@@ -29,3 +29,6 @@ pub mod SeriesTable
 pub mod Settled
 pub mod Storing
 pub mod Submit
+pub mod TableDue
+pub mod TableLaw
+pub mod TableWords

@@ -1,15 +1,15 @@
 -- Laws of the log: when a row is due and which, and a row more. Assumes nothing.
 use Prim.Native.Nat.{ℕ, _+_, _*_, _≤_}
 use mathlib.Core.Path.{_≡_, refl, sym, ap, _∙_}
-use mathlib.Core.Bool.{Bool, true, false, cond, true≢false}
+use mathlib.Core.Bool.{Bool, true, false, cond, true≢false, false≢true}
 use mathlib.Core.Logic.{_⊎_, inl, inr}
 use mathlib.Core.List.{List, [], _∷_, _++_, append-assoc}
 use native.Mathlib.Omega.{arith}
-use borrow.Author.Tests.{ltb-false, eqb-true, eq-eqb, not-false}
+use borrow.Author.Tests.{ltb-false, eqb-true, eq-eqb, not-true, not-false}
 use lib.Dec.{eqb}
 use lib.ListN.{length, take, drop, length-append}
 use lib.Seq.{take-at, length-take-le}
-use Rattle.quantity.proofs.Tests.{and-left, and-right}
+use Rattle.quantity.proofs.Tests.{and-left, and-right, and-both}
 use Rattle.book.specs.Row.{splice}
 use Rattle.book.proofs.Rows.{length-splice}
 use Rattle.state.specs.Selection.{own}
@@ -17,7 +17,7 @@ use Rattle.state.specs.declared.Selection.{Selection}
 use Rattle.state.specs.declared.Selection.the-variants.{None, Selected}
 use Rattle.state.specs.declared.VersionRecord.{VersionRecord}
 use Rattle.model.specs.Causes.{logFull}
-use Rattle.model.specs.Laws.{SameRow}
+use Rattle.model.specs.Laws.{SameRow, RowOf}
 use Rattle.model.specs.Log.{sameRow, differ, logRow, due, addRow, logWords, logNumbers, logged, usedAfter}
 use Rattle.model.specs.declared.Due.{Due}
 use Rattle.model.specs.declared.Due.the-variants.{Nothing, Row}
@@ -61,15 +61,25 @@ due-nothing vs ws p d = go (differ (own 1 p vs) (own 1 p ws)) (differ (own 2 p v
     go false true x y e = no-row e
     go false false x y e = (differ-not (own 1 p vs) (own 1 p ws) x, differ-not (own 2 p vs) (own 2 p ws) y)
 
--- a row that is due has the day, the point, and the run whose selection changed with its new version
-pub due-row : (vs ws : List VersionRecord) (p d : ℕ) (r : LogRow) → due vs ws p d ≡ Row r → (r ≡ logRow d p 1 (own 1 p ws)) ⊎ (r ≡ logRow d p 2 (own 2 p ws))
+-- what is another selection is another row
+differ-other : (o n : Selection) → differ o n ≡ true → SameRow o n → ⊥
+unfolding differ
+differ-other None None e q = false≢true e
+differ-other None (Selected s) e q = q
+differ-other (Selected r) None e q = q
+differ-other (Selected r) (Selected s) e q =
+    true≢false (sym (and-both (eqb (r .at) (s .at)) _ (eq-eqb (r .at) (s .at) (q .0)) (eq-eqb (r .version .0) (s .version .0) (q .1))) ∙ not-true (sameRow r s) e)
+
+-- a row that is due has the day, the point, and the run whose selection changed with its new version, as four numbers of the log
+pub due-row : (vs ws : List VersionRecord) (p d : ℕ) (r : LogRow) → due vs ws p d ≡ Row r → RowOf vs ws p d 1 r ⊎ RowOf vs ws p d 2 r
 unfolding due
-due-row vs ws p d r = go (differ (own 1 p vs) (own 1 p ws)) (differ (own 2 p vs) (own 2 p ws))
+due-row vs ws p d r = go (differ (own 1 p vs) (own 1 p ws)) (differ (own 2 p vs) (own 2 p ws)) refl refl
   where
-    go : (a b : Bool) → cond a (Row (logRow d p 1 (own 1 p ws))) (cond b (Row (logRow d p 2 (own 2 p ws))) Nothing) ≡ Row r → (r ≡ logRow d p 1 (own 1 p ws)) ⊎ (r ≡ logRow d p 2 (own 2 p ws))
-    go true b e = inl (same-row r (logRow d p 1 (own 1 p ws)) (sym e))
-    go false true e = inr (same-row r (logRow d p 2 (own 2 p ws)) (sym e))
-    go false false e = no-row (sym e)
+    go : (a b : Bool) → differ (own 1 p vs) (own 1 p ws) ≡ a → differ (own 2 p vs) (own 2 p ws) ≡ b
+        → cond a (Row (logRow d p 1 (own 1 p ws))) (cond b (Row (logRow d p 2 (own 2 p ws))) Nothing) ≡ Row r → RowOf vs ws p d 1 r ⊎ RowOf vs ws p d 2 r
+    go true b x y e = inl (record { changed = differ-other (own 1 p vs) (own 1 p ws) x; words = ap logWords (same-row r (logRow d p 1 (own 1 p ws)) (sym e)) })
+    go false true x y e = inr (record { changed = differ-other (own 2 p vs) (own 2 p ws) y; words = ap logWords (same-row r (logRow d p 2 (own 2 p ws)) (sym e)) })
+    go false false x y e = no-row (sym e)
 
 numbers-snoc : (l : List LogRow) (r : LogRow) → logNumbers (l ++ (r ∷ [])) ≡ logNumbers l ++ logWords r
 unfolding logNumbers

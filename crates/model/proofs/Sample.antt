@@ -26,6 +26,12 @@ sample =
       p2 = ((refl, refl), (refl, refl));
       p3 = ((refl, refl), (refl, refl));
       p4 = ((refl, refl), (refl, refl));
+      group5 = ((refl, refl), (refl, refl));
+      group6 = ((refl, refl), (refl, refl));
+      group1 = ((refl, refl), (refl, refl));
+      group2 = ((refl, refl), (refl, refl));
+      group4 = ((refl, refl), (refl, refl));
+      group3 = ((refl, refl), (refl, refl));
       p5 = record { answer = refl; number = refl };
       p6 = record { answer = refl; number = refl };
       p7 = record { answer = refl; number = refl };

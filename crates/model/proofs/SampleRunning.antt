@@ -7,12 +7,12 @@ use lib.IntN.{ℤ}
 use lib.ListN.{length, getD}
 use Rattle.quantity.specs.Limits.{groups, runs, runRows}
 use Rattle.quantity.proofs.Sums.{sum-same}
-use Rattle.book.specs.Place.{groupRow, deltaRow}
+use Rattle.book.specs.Place.{groupRow}
 use Rattle.state.specs.declared.Opening.{Opening}
 use Rattle.model.specs.Agreement.{fresh, lend, end, replies, Agree}
 use Rattle.model.specs.Call.{Call, Stores, Lengths, lengthsOf, telling, answerNumber, Reply}
 use Rattle.model.specs.Plain.{openingOf, plainReplies, plainEnd}
-use Rattle.model.specs.Sample.{Sample, Example, Says, RowIs, TotalIs, plainDesk, runningDesk, room, month, file, total}
+use Rattle.model.specs.Sample.{Sample, Example, Says, RowIs, BothRows, TotalIs, plainDesk, runningDesk, room, month, file, total}
 use Rattle.model.specs.declared.Answer.{Answer}
 use Rattle.model.specs.declared.Answer.the-variants.{Accepted}
 use Rattle.model.proofs.Lends.{lend-chained, lend-told}
@@ -45,7 +45,7 @@ module _ (s : Stores) (e : lengthsOf s ≡ room 2) where
   totals-plain : (run : ℕ) → 1 ≤ run → run ≤ runs → (a b : ℤ) → TotalIs (plainDesk (room 2)) run a b → TotalIs (runningDesk s) run a b
   totals-plain run lo hi a b p = (same-total s (room 2) e month 2 month-quarters run 0 lo hi (omega arith) ∙ p .0, same-total s (room 2) e month 2 month-quarters run 1 lo hi (omega arith) ∙ p .1)
 
-  both-rows : (k : ℕ) → k < runRows → (a b : ℤ) → RowIs (plainDesk (room 2)) 1 k a b × RowIs (plainDesk (room 2)) 2 k a b → RowIs (runningDesk s) 1 k a b × RowIs (runningDesk s) 2 k a b
+  both-rows : (k : ℕ) → k < runRows → (a b : ℤ) → BothRows (plainDesk (room 2)) k a b → BothRows (runningDesk s) k a b
   both-rows k h a b p = (row-plain 1 k (omega arith) (omega arith) h a b (p .0), row-plain 2 k (omega arith) (omega arith) h a b (p .1))
 
   pub sample-running : Sample (runningDesk s)
@@ -53,10 +53,16 @@ module _ (s : Stores) (e : lengthsOf s ≡ room 2) where
       let S = sample in
       record {
         taken = same-answers s (room 2) e month ∙ S .taken;
-        p1 = both-rows (deltaRow 1) (omega arith) _ _ (S .p1);
-        p2 = both-rows (deltaRow 2) (omega arith) _ _ (S .p2);
-        p3 = both-rows (deltaRow 0) (omega arith) _ _ (S .p3);
+        p1 = both-rows 65 (omega arith) _ _ (S .p1);
+        p2 = both-rows 66 (omega arith) _ _ (S .p2);
+        p3 = both-rows 64 (omega arith) _ _ (S .p3);
         p4 = (totals-plain 1 (omega arith) (omega arith) _ _ (S .p4 .0), totals-plain 2 (omega arith) (omega arith) _ _ (S .p4 .1));
+        group5 = both-rows 4 (omega arith) _ _ (S .group5);
+        group6 = both-rows 5 (omega arith) _ _ (S .group6);
+        group1 = both-rows 0 (omega arith) _ _ (S .group1);
+        group2 = both-rows 1 (omega arith) _ _ (S .group2);
+        group4 = both-rows 3 (omega arith) _ _ (S .group4);
+        group3 = both-rows 2 (omega arith) _ _ (S .group3);
         p5 = as-plain _ _ _ _ (S .p5);
         p6 = as-plain _ _ _ _ (S .p6);
         p7 = as-plain _ _ _ _ (S .p7);

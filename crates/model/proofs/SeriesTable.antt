@@ -1,4 +1,4 @@
--- Laws of the table of series: a value is on a row of a side once or not at all, its net is no larger than itself, and its net over the
+-- Laws of the table of series: what each kind adds to each row; a value is on a row of a side once or not at all, its net is no larger than itself, and its net over the
 -- 64 groups is itself for an outside exchange and 0 for all else. Assumes nothing.
 use Prim.Native.Nat.{ℕ, zero, suc, _-_, _≤_, _<_}
 use mathlib.Core.Path.{_≡_, refl, sym, ap, _∙_}
@@ -22,6 +22,7 @@ use Rattle.state.specs.Point.{seriesOk}
 use Rattle.state.specs.Valid.{stateOk}
 use Rattle.state.specs.declared.PointState.{PointState}
 use Rattle.state.specs.declared.PointState.the-variants.{Free, Active}
+use Rattle.model.specs.Laws.{ofDelta, SeriesAdds}
 use Rattle.model.specs.Series.{groupSide, deltaSide, toSide, fromSide, sidesOf, atRow, onSide, adds, isOutside}
 use Rattle.model.specs.declared.Side.{Side}
 use Rattle.model.specs.declared.Side.the-variants.{Outside, Group, Delta}
@@ -71,6 +72,20 @@ module _ (s : Sides) (k : ℕ) where
   unfolding adds
   adds-minus a b =
       cc (onSide-minus (s .to) k a b, onSide-minus (s .from) k a b, minus-minus (onSide (s .to) k a) (onSide (s .to) k b) (onSide (s .from) k a) (onSide (s .from) k b))
+
+-- ---- the table of series, line by line: any groups, areas, row and value
+
+pub series-adds : (gs : List ℕ) (k : ℕ) (v : ℤ) → SeriesAdds gs k v
+unfolding sidesOf toSide fromSide onSide adds
+series-adds gs k v =
+    record {
+      outside = λ a. +ℤ-idr (ofDelta gs a k v);
+      exchange = λ a b h. rw (lt-ltb 0 b (omega (arith, h)));
+      groupSum = λ a g. refl;
+      areaSum = λ a. refl;
+      groupSumT = λ g. refl;
+      transfer = λ a. refl;
+    }
 
 -- ---- the sides of a valid point
 

@@ -1,8 +1,8 @@
 -- Demands 1 and 2 as statements on the desks.
 use Prim.Native.Nat.{ℕ, _*_, _≤_, _<_}
 use mathlib.Core.Path.{_≡_}
-use mathlib.Core.Bool.{Bool, true, false}
-use mathlib.Core.List.{List, [], _∷_, map}
+use mathlib.Core.Bool.{Bool, true, false, cond}
+use mathlib.Core.List.{List, [], _∷_, _++_, map}
 use lib.Dec.{eqb}
 use lib.ListN.{take}
 use Rattle.quantity.specs.Limits.{runs, runRows}
@@ -20,6 +20,10 @@ use Rattle.model.specs.declared.Answer.the-variants.{Accepted, HasStatus
 use Rattle.model.specs.declared.Cause.{Cause}
 use Rattle.model.specs.declared.Due.{Due}
 
+-- "Checks go down the table": its numbers from top to bottom
+abbrev pub order : List ℕ
+order = 1 ∷ 2 ∷ 3 ∷ 6 ∷ 4 ∷ 5 ∷ 11 ∷ 26 ∷ 21 ∷ 22 ∷ 12 ∷ 23 ∷ 13 ∷ 14 ∷ 15 ∷ 24 ∷ 25 ∷ 16 ∷ 17 ∷ 27 ∷ 28 ∷ 29 ∷ []
+
 -- "only those that fit the call": the numbers that a call may be refused with, in the order of the checks
 abbrev pub fits : Call → List ℕ
 fits (opens q f c k gs) = 6 ∷ 4 ∷ []
@@ -35,6 +39,11 @@ fits (settles r d) = 1 ∷ 3 ∷ 5 ∷ 27 ∷ 28 ∷ 29 ∷ []
 -- a number of the list
 abbrev pub isIn : List ℕ → ℕ → Bool
 isIn l n = any (eqb n) l
+
+-- those of a list that stand in another, in the order of the first
+abbrev pub among : (l other : List ℕ) → List ℕ
+among [] m = []
+among (n ∷ l) m = cond (isIn m n) (n ∷ []) [] ++ among l m
 
 -- "A call accepted returns 0 (status: 1..5; show: the row)."
 abbrev pub asksStatus : Call → Bool

@@ -1,19 +1,27 @@
 -- What both desks share, said in other words: a theorem of their agreement could not judge it.
-use Prim.Native.Nat.{ℕ, _<_}
+use Prim.Native.Nat.{ℕ, _+_, _-_, _≤_, _<_}
 use mathlib.Core.Path.{_≡_}
-use mathlib.Core.Bool.{true, false}
+use mathlib.Core.Bool.{true, false, cond}
 use mathlib.Core.List.{List, [], _∷_}
 use mathlib.Core.Logic.{_⊎_}
-use lib.ListN.{length}
-use Rattle.state.specs.Selection.{own}
-use Rattle.state.specs.Status.{isCheck}
+use lib.Dec.{eqb}
+use lib.IntN.{ℤ, pos, _+ℤ_, _-ℤ_}
+use lib.ListN.{length, getD}
+use Rattle.state.specs.Point.{activePoint}
+use Rattle.state.specs.Selection.{own, versionOf}
+use Rattle.state.specs.Status.{statusNumber, isCheck}
 use Rattle.state.specs.Version.{recordAt, restatus, isVersion}
 use Rattle.state.specs.declared.Selection.{Selection}
 use Rattle.state.specs.declared.Selection.the-variants.{None, Selected}
 use Rattle.state.specs.declared.Status.{Status}
 use Rattle.state.specs.declared.VersionRecord.{VersionRecord}
+use Rattle.model.specs.Call.{Call, opens, activates, deactivates, submits, notices, assigns, shows, asks, settles, Lengths}
 use Rattle.model.specs.Causes.{Rule}
+use Rattle.model.specs.Log.{logWords}
+use Rattle.model.specs.Plain.{Worked}
+use Rattle.model.specs.Series.{sidesOf, adds}
 use Rattle.model.specs.declared.Cause.{Cause}
+use Rattle.model.specs.declared.LogRow.{LogRow}
 
 -- no line of the table holds
 abbrev pub Passed : List Rule → Type 0
@@ -51,3 +59,78 @@ SameRow None None = Unit {0}
 SameRow None (Selected s) = ⊥
 SameRow (Selected r) None = ⊥
 SameRow (Selected r) (Selected s) = (r .at ≡ s .at) × (r .version .0 ≡ s .version .0)
+
+-- "When run 1's selection or run 2's own changes, the log gains a row: day, point, run, new version."
+pub record RowOf (vs ws : List VersionRecord) (point day run : ℕ) (r : LogRow) : Type 0 where
+  pub changed : SameRow (own run point vs) (own run point ws) → ⊥
+  pub words : logWords r ≡ day ∷ point ∷ run ∷ versionOf (own run point ws) ∷ []
+
+-- ---- the table of series, by the rows' own numbers: "Rows 0..63 are groups 1..64, row 64 delta T, rows 65..80 areas 1..16."
+
+-- a value in a row, and 0 in every other
+abbrev pub inRow : (row k : ℕ) → ℤ → ℤ
+inRow r k v = cond (eqb r k) v (pos 0)
+
+-- a group's
+abbrev pub ofGroup : (group k : ℕ) → ℤ → ℤ
+ofGroup g k v = inRow (g - 1) k v
+
+-- a delta's, of T (0) or an area: "Each delta is also added to its delta group."
+abbrev pub ofDelta : (groups : List ℕ) (area k : ℕ) → ℤ → ℤ
+ofDelta gs a k v = inRow (64 + a) k v +ℤ ofGroup (getD gs a 0) k v
+
+-- what a series of a kind, area and partner adds to row k
+abbrev pub adding : (groups : List ℕ) (kind area partner k : ℕ) → ℤ → ℤ
+adding gs kind a b k v = adds (sidesOf gs (activePoint kind a b 0 .state)) k v
+
+-- "adds its value v to", line by line
+pub record SeriesAdds (gs : List ℕ) (k : ℕ) (v : ℤ) : Type 0 where
+  pub outside : (a : ℕ) → adding gs 1 a 0 k v ≡ ofDelta gs a k v
+  pub exchange : (a b : ℕ) → 1 ≤ b → adding gs 1 a b k v ≡ ofDelta gs a k v -ℤ ofDelta gs b k v
+  pub groupSum : (a g : ℕ) → adding gs 2 a g k v ≡ ofGroup g k v -ℤ ofDelta gs a k v
+  pub areaSum : (a : ℕ) → adding gs 3 a 0 k v ≡ ofDelta gs 0 k v -ℤ ofDelta gs a k v
+  pub groupSumT : (g : ℕ) → adding gs 4 0 g k v ≡ ofGroup g k v -ℤ ofDelta gs 0 k v
+  pub transfer : (a : ℕ) → adding gs 5 a 0 k v ≡ ofDelta gs a k v -ℤ ofDelta gs 0 k v
+
+-- ---- what an accepted call sets
+
+-- "The opening gives Q, deadlines and store lengths."
+pub record Opens (quarters first clearing correction : ℕ) (groups : List ℕ) (n : Lengths) (w : Worked) : Type 0 where
+  pub q : w .opening .quarters ≡ quarters
+  pub f : w .opening .first .0 ≡ first
+  pub c : w .opening .clearing .0 ≡ clearing
+  pub k : w .opening .correction .0 ≡ correction
+  pub values : w .opening .values ≡ n .values
+  pub book : w .opening .book ≡ n .book
+  pub log : w .opening .log ≡ n .log
+  pub given : w .groups ≡ groups
+
+-- an element of a list is another one, and every other as it was; z is read past the end
+pub record Sets {A : Type 0} (z : A) (at : ℕ) (x : A) (before after : List A) : Type 0 where
+  pub there : at < length before → getD after at z ≡ x
+  pub others : (j : ℕ) → (j ≡ at → ⊥) → getD after j z ≡ getD before j z
+  pub size : length after ≡ length before
+
+-- "Each submission makes a version that takes a row of values": behind those held, with the next row; "Status 2 if day ≤ F, else 1."
+pub record Delivers (point version day : ℕ) (energies : List ℤ) (before after : Worked) : Type 0 where
+  pub size : length (after .versions) ≡ length (before .versions) + 1
+  pub ofPoint : recordAt (after .versions) (length (before .versions)) .point .0 ≡ point
+  pub numbered : recordAt (after .versions) (length (before .versions)) .version .0 ≡ version
+  pub row : recordAt (after .versions) (length (before .versions)) .row .0 ≡ length (before .versions)
+  pub status : ((day ≤ before .opening .first .0) × (statusNumber (recordAt (after .versions) (length (before .versions)) .status) ≡ 2))
+      ⊎ ((before .opening .first .0 < day) × (statusNumber (recordAt (after .versions) (length (before .versions)) .status) ≡ 1))
+  pub others : (j : ℕ) → j < length (before .versions) → recordAt (after .versions) j ≡ recordAt (before .versions) j
+  pub series : getD (after .energies) (length (before .energies)) [] ≡ energies
+  pub earlier : (j : ℕ) → j < length (before .energies) → getD (after .energies) j [] ≡ getD (before .energies) j []
+
+-- "An accepted call with a day sets it."
+abbrev pub dayBy : Call → (before : ℕ) → ℕ
+dayBy (opens q f c k gs) e = e
+dayBy (activates p k a b d) e = d
+dayBy (deactivates p d) e = d
+dayBy (submits p x d es) e = d
+dayBy (notices p x y d) e = d
+dayBy (assigns a g d) e = d
+dayBy (shows r g) e = e
+dayBy (asks p x) e = e
+dayBy (settles r d) e = d

@@ -8,4 +8,5 @@ pub mod Plain
 pub mod Sample
 pub mod Series
 pub mod Step
+pub mod Table
 pub mod View

@@ -6,7 +6,7 @@ use lib.IntN.{ℤ, pos, negsuc}
 use lib.ListN.{length, getD, replicate}
 use Rattle.quantity.specs.Limits.{groups, bookRows}
 use Rattle.quantity.specs.Sum.{sumTo}
-use Rattle.book.specs.Place.{groupRow, deltaRow}
+use Rattle.book.specs.Place.{groupRow}
 use Rattle.message.specs.File.{verdictOf, refusalOf, offsetOf}
 use Rattle.state.specs.declared.Status.the-variants.{Check, Settlement, Correction}
 use Rattle.model.specs.Agreement.{replies, end, fresh, bookFigure, lend}
@@ -92,6 +92,10 @@ pub record Says (d : Account) (l : List Call) (c : Call) (a : Answer) (n : ℕ) 
 abbrev pub RowIs : Account → (run k : ℕ) → (first second : ℤ) → Type 0
 RowIs d run k a b = (d .figures month run k 0 ≡ a) × (d .figures month run k 1 ≡ b)
 
+-- in both runs; "Rows 0..63 are groups 1..64, row 64 delta T, rows 65..80 areas 1..16."
+abbrev pub BothRows : Account → (k : ℕ) → (first second : ℤ) → Type 0
+BothRows d k a b = RowIs d 1 k a b × RowIs d 2 k a b
+
 -- the sum of the 64 groups in a quarter hour
 abbrev pub total : Account → List Call → (run quarter : ℕ) → ℤ
 total d l run q = sumTo groups (λ (g : ℕ). d .figures l run (groupRow g) q)
@@ -105,10 +109,17 @@ pub record Sample (d : Account) : Type 0 where
   -- each call of the month is accepted
   pub taken : d .answers month ≡ replicate 13 Accepted
   -- "P1 delta 1 is 11000, 7000. P2 delta 2 is 30200, 19900. P3 delta T is 300, -100. P4 totals 100000, 80000."
-  pub p1 : RowIs d 1 (deltaRow 1) (pos 11000) (pos 7000) × RowIs d 2 (deltaRow 1) (pos 11000) (pos 7000)
-  pub p2 : RowIs d 1 (deltaRow 2) (pos 30200) (pos 19900) × RowIs d 2 (deltaRow 2) (pos 30200) (pos 19900)
-  pub p3 : RowIs d 1 (deltaRow 0) (pos 300) (negsuc 99) × RowIs d 2 (deltaRow 0) (pos 300) (negsuc 99)
+  pub p1 : BothRows d 65 (pos 11000) (pos 7000)
+  pub p2 : BothRows d 66 (pos 30200) (pos 19900)
+  pub p3 : BothRows d 64 (pos 300) (negsuc 99)
   pub p4 : TotalIs d 1 (pos 100000) (pos 80000) × TotalIs d 2 (pos 100000) (pos 80000)
+  -- the groups: 5 and 6 have their sums, 1, 2 and 4 the deltas of area 1, area 2 and T, and 3 those of areas without a series
+  pub group5 : BothRows d 4 (pos 50000) (pos 45000)
+  pub group6 : BothRows d 5 (pos 8500) (pos 8200)
+  pub group1 : BothRows d 0 (pos 11000) (pos 7000)
+  pub group2 : BothRows d 1 (pos 30200) (pos 19900)
+  pub group4 : BothRows d 3 (pos 300) (negsuc 99)
+  pub group3 : BothRows d 2 (pos 0) (pos 0)
   -- "P5 a new highest version submitted on day 10 has status 2; P6 on day 11 status 1."
   pub p5 : Says d (later 10) (asks 1 2) (HasStatus Settlement) 2
   pub p6 : Says d (later 11) (asks 1 2) (HasStatus Check) 1

@@ -1,4 +1,5 @@
 pub mod Limits
 pub mod Lists
+pub mod Meaning
 pub mod Sum
 pub mod Word

@@ -1,8 +1,10 @@
 pub mod Applied
 pub mod Bounds
 pub mod Kept
+pub mod Limits
 pub mod Lists
 pub mod Picks
 pub mod PointTable
+pub mod Settled
 pub mod Starts
 pub mod TopVersions

@@ -8,3 +8,4 @@ pub mod Status
 pub mod Valid
 pub mod Version
 pub mod Walk
+pub mod Within

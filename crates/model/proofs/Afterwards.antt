@@ -1,0 +1,78 @@
+-- What an accepted call makes of the desk, field by field, in the paper's words. Assumes nothing.
+use Prim.Native.Nat.{ℕ, suc}
+use mathlib.Core.Path.{_≡_, refl, ap}
+use mathlib.Core.Bool.{true}
+use mathlib.Core.List.{List, [], _∷_, _++_}
+use lib.IntN.{ℤ}
+use lib.ListN.{length, set, length-set, length-append, List·getD-append}
+use lib.Seq.{getD-set-same, getD-set-other, getD-append-seam}
+use Rattle.quantity.specs.Lists.{fold}
+use Rattle.state.specs.Point.{freePoint}
+use Rattle.state.specs.Version.{emptyVersion, newVersion, recordAt}
+use Rattle.state.specs.declared.PointState.the-variants.{Free, Active}
+use Rattle.state.specs.declared.VersionRecord.{VersionRecord}
+use Rattle.state.proofs.Settled.{submitted-number}
+use Rattle.model.specs.Call.{Call, opens, activates, deactivates, submits, notices, assigns, shows, asks, settles, Lengths, telling}
+use Rattle.model.specs.Laws.{Opens, Sets, Delivers, dayBy}
+use Rattle.model.specs.Plain.{Worked, after}
+
+sets-one : {A : Type 0} (z : A) (l : List A) (i : ℕ) (x : A) → Sets z i x l (set l i x)
+sets-one z l i x = record { there = getD-set-same l i x z; others = λ j ne. getD-set-other l i j x z ne; size = length-set l i x }
+
+module _ (w : Worked) (n : Lengths) where
+  pub opens-sets : (q f c k : ℕ) (gs : List ℕ) → Opens q f c k gs n (after (telling n (opens q f c k gs)) w)
+  unfolding after fold
+  opens-sets q f c k gs = record { q = refl; f = refl; c = refl; k = refl; values = refl; book = refl; log = refl; given = refl }
+
+  -- "a point is either free or active since a day, with its kind, area and partner": points are counted from 1, records from 0
+  pub activates-sets : (i k a b d : ℕ)
+      → Sets freePoint i (record { state = Active (record { 0 = d }) (record { 0 = k }) (record { 0 = a }) (record { 0 = b }) }) (w .points) (after (telling n (activates (suc i) k a b d)) w .points)
+  unfolding after fold
+  activates-sets i k a b d = sets-one freePoint (w .points) i _
+
+  -- "The point becomes free."
+  pub deactivates-sets : (i d : ℕ) → Sets freePoint i (record { state = Free }) (w .points) (after (telling n (deactivates (suc i) d)) w .points)
+  unfolding after fold
+  deactivates-sets i d = sets-one freePoint (w .points) i _
+
+  -- "A delta's group is the one set last."
+  pub assigns-sets : (a g d : ℕ) → Sets 0 a g (w .groups) (after (telling n (assigns a g d)) w .groups)
+  unfolding after fold
+  assigns-sets a g d = sets-one 0 (w .groups) a g
+
+  pub submits-sets : (p x d : ℕ) (es : List ℤ) → Delivers p x d es w (after (telling n (submits p x d es)) w)
+  unfolding after fold
+  submits-sets p x d es =
+      let new = newVersion (w .opening .first .0) (length (w .versions)) p x d in
+      let there : recordAt (w .versions ++ (new ∷ [])) (length (w .versions)) ≡ new = getD-append-seam (w .versions) new [] emptyVersion in
+      record {
+        size = length-append (w .versions) (new ∷ []);
+        ofPoint = ap (λ (v : VersionRecord). v .point .0) there;
+        numbered = ap (λ (v : VersionRecord). v .version .0) there;
+        row = ap (λ (v : VersionRecord). v .row .0) there;
+        status = rw there (submitted-number (w .opening .first .0) d);
+        others = λ j h. List·getD-append (w .versions) (new ∷ []) emptyVersion j h;
+        series = getD-append-seam (w .energies) es [] [];
+        earlier = λ j h. List·getD-append (w .energies) (es ∷ []) [] j h;
+      }
+
+  -- settle's flag
+  pub settles-first : (d : ℕ) → (after (telling n (settles 1 d)) w .settled .first ≡ true) × (after (telling n (settles 1 d)) w .settled .second ≡ w .settled .second)
+  unfolding after fold
+  settles-first d = (refl, refl)
+
+  pub settles-second : (d : ℕ) → (after (telling n (settles 2 d)) w .settled .second ≡ true) × (after (telling n (settles 2 d)) w .settled .first ≡ w .settled .first)
+  unfolding after fold
+  settles-second d = (refl, refl)
+
+  pub day-set : (c : Call) → after (telling n c) w .day ≡ dayBy c (w .day)
+  unfolding after fold
+  day-set (opens q f c k gs) = refl
+  day-set (activates p k a b d) = refl
+  day-set (deactivates p d) = refl
+  day-set (submits p x d es) = refl
+  day-set (notices p x y d) = refl
+  day-set (assigns a g d) = refl
+  day-set (shows r g) = refl
+  day-set (asks p x) = refl
+  day-set (settles r d) = refl

@@ -1,0 +1,207 @@
+-- Document 01's table of causes, for each call its lines from top to bottom: the number, and in the paper's words when it holds. What both desks
+-- share, the tests of `terms`, is judged by it.
+use Prim.Native.Nat.{ℕ, _+_, _*_, _%_, _≤_, _<_}
+use mathlib.Core.Path.{_≡_}
+use mathlib.Core.Bool.{true, false}
+use mathlib.Core.Logic.{_⊎_}
+use mathlib.Core.List.{List}
+use lib.IntN.{ℤ, pos, natAbs}
+use lib.ListN.{length, getD}
+use Rattle.quantity.specs.Meaning.{Between, Each, Among}
+use Rattle.state.specs.Point.{freePoint}
+use Rattle.state.specs.Status.{statusNumber}
+use Rattle.state.specs.Version.{emptyVersion, recordAt}
+use Rattle.state.specs.Within.{InTable, Within}
+use Rattle.state.specs.declared.Desk.{Desk}
+use Rattle.state.specs.declared.Frame.{Frame}
+use Rattle.state.specs.declared.PointState.the-variants.{Active}
+use Rattle.state.specs.declared.PointRecord.{PointRecord}
+use Rattle.state.specs.declared.VersionRecord.{VersionRecord}
+use Rattle.model.specs.Call.{Call, opens, activates, deactivates, submits, notices, assigns, shows, asks, settles, Lengths, causeNumber}
+use Rattle.model.specs.View.{View, viewOf}
+use Rattle.model.specs.declared.Answer.{Answer}
+use Rattle.model.specs.declared.Answer.the-variants.{Refused}
+use Rattle.model.specs.declared.Cause.{Cause}
+
+-- lines, each with its number and when it holds
+pub data Table : Type 1 where
+  end : Table
+  line : (number : ℕ) → (when : Type 0) → Table → Table
+
+-- "the first that holds decides": a line of the number holds, and none above it
+abbrev pub FirstIs : Table → ℕ → Type 0
+FirstIs end n = ⊥
+FirstIs (line m P t) n = (P × (m ≡ n)) ⊎ ((P → ⊥) × FirstIs t n)
+
+-- none holds
+abbrev pub NoneIs : Table → Type 0
+NoneIs end = Unit {0}
+NoneIs (line m P t) = (P → ⊥) × NoneIs t
+
+-- an answer is what the table says: a number is refused exactly where its line is the first that holds, and nothing where none does
+pub record ByTable (t : Table) (a : Answer) : Type 0 where
+  pub refused : (x : Cause) → a ≡ Refused x → FirstIs t (causeNumber x)
+  pub refuses : (n : ℕ) → FirstIs t n → (x : Cause) × ((a ≡ Refused x) × (causeNumber x ≡ n))
+  pub accepted : ((x : Cause) → a ≡ Refused x → ⊥) → NoneIs t
+  pub accepts : NoneIs t → (x : Cause) → a ≡ Refused x → ⊥
+
+-- ---- words of the paper
+
+-- the point is active since a day; points are counted from 1, records from 0
+pub record ActiveAt (ps : List PointRecord) (point : ℕ) : Type 0 where
+  pub at : ℕ
+  pub since : ℕ
+  pub kind : ℕ
+  pub area : ℕ
+  pub partner : ℕ
+  pub numbered : point ≡ at + 1
+  pub there : getD ps at freePoint .state ≡ Active (record { 0 = since }) (record { 0 = kind }) (record { 0 = area }) (record { 0 = partner })
+
+-- "an active point has the same kind, area and partner"
+pub record SameSeries (kind area partner : ℕ) (r : PointRecord) : Type 0 where
+  pub since : ℕ
+  pub there : r .state ≡ Active (record { 0 = since }) (record { 0 = kind }) (record { 0 = area }) (record { 0 = partner })
+
+-- the version's record; of two, which only a dishonest table has, the first
+pub record FoundAt (vs : List VersionRecord) (point version at : ℕ) : Type 0 where
+  pub within : at < length vs
+  pub here : recordAt vs at .point .0 ≡ point
+  pub numbered : recordAt vs at .version .0 ≡ version
+  pub first : (j : ℕ) → j < at → recordAt vs j .point .0 ≡ point → recordAt vs j .version .0 ≡ version → ⊥
+
+-- "Run 1 selects for a point the highest version of status 2 or 3. Run 2 selects the highest of status 4 or 5 (its own)": no version of the point
+-- with one of these statuses is above `version`
+abbrev pub NoneAbove : (vs : List VersionRecord) (point version status other : ℕ) → Type 0
+NoneAbove vs p x s t =
+    Each emptyVersion (λ (v : VersionRecord). v .point .0 ≡ p → (statusNumber (v .status) ≡ s) ⊎ (statusNumber (v .status) ≡ t) → v .version .0 ≤ x) vs
+
+-- "Positive turns status 1 into 2 if day ≤ C, else 4.": run 1's selection or run 2's own changes, so that a log row is due
+abbrev pub NoticeDue : (vs : List VersionRecord) (clearing point version verdict day : ℕ) → Type 0
+NoticeDue vs c p x y d = (y ≡ 1) × (((d ≤ c) × NoneAbove vs p x 2 3) ⊎ ((c < d) × NoneAbove vs p x 4 5))
+
+-- "none is left": a row has four numbers
+abbrev pub NoneLeft : Frame → Type 0
+NoneLeft f = f .opening .log < 4 * (f .used + 1)
+
+-- ---- the table
+
+-- "open: Q, deadlines, groups or store lengths not allowed": what is allowed
+abbrev pub Allowed : (quarters first clearing correction : ℕ) (groups : List ℕ) → Lengths → Type 0
+Allowed q f c k gs n =
+    (Between 1 2980 q
+    × (((1 ≤ f) × ((f < c) × ((c < k) × (k ≤ 399))))
+    × ((n .book ≡ 162 * q)
+    × (n .log % 4 ≡ 0))))
+    × ((length gs ≡ 17) × Each 0 (Between 1 64) gs)
+
+-- a submission's fields: point, version, day, "Q energies", "each from -10^12 to 10^12"
+abbrev pub SubmitIn : (point version day quarters : ℕ) → List ℤ → Type 0
+SubmitIn p x d q es =
+    Between 1 256 p
+    × (Between 1 99999999999999 x
+    × ((d ≤ 400)
+    × ((length es ≡ q)
+    × Each (pos 0) (λ (e : ℤ). natAbs e ≤ 1000000000000) es)))
+
+module _ (v : View) (n : Lengths) where
+  -- "desk not open": "An unopened desk has no quarter hours."
+  abbrev pub Unopened : Type 0
+  Unopened = v .frame .opening .quarters ≡ 0
+
+  -- "values, book or log that the call takes differs from its opening length": all three
+  abbrev pub OtherStores : Type 0
+  OtherStores =
+      (n .values ≡ v .frame .opening .values → ⊥) ⊎ ((n .book ≡ v .frame .opening .book → ⊥) ⊎ (n .log ≡ v .frame .opening .log → ⊥))
+
+  -- the book alone
+  abbrev pub OtherBook : Type 0
+  OtherBook = n .book ≡ v .frame .opening .book → ⊥
+
+  -- "Checks go down the table, only those that fit the call"
+  abbrev pub table : Call → Table
+  table (opens q f c k gs) =
+      line 6 (Unopened → ⊥)
+      (line 4 (Allowed q f c k gs n → ⊥)
+      end)
+  table (activates p k a b d) =
+      line 1 Unopened
+      (line 3 (Between 1 256 p × ((d ≤ 400) × InTable k a b) → ⊥)
+      (line 5 (d < v .frame .day .0)
+      (line 11 (v .frame .opening .correction .0 < d)
+      (line 21 (ActiveAt (v .points) p)
+      (line 22 (Among freePoint (SameSeries k a b) (v .points))
+      end)))))
+  table (deactivates p d) =
+      line 1 Unopened
+      (line 3 (Between 1 256 p × (d ≤ 400) → ⊥)
+      (line 5 (d < v .frame .day .0)
+      (line 11 (v .frame .opening .correction .0 < d)
+      (line 12 (ActiveAt (v .points) p → ⊥)
+      (line 23 (Among emptyVersion (λ (r : VersionRecord). r .point .0 ≡ p) (v .versions))
+      end)))))
+  table (submits p x d es) =
+      line 1 Unopened
+      (line 2 OtherStores
+      (line 3 (SubmitIn p x d (v .frame .opening .quarters) es → ⊥)
+      (line 5 (d < v .frame .day .0)
+      (line 11 (v .frame .opening .correction .0 < d)
+      (line 12 (ActiveAt (v .points) p → ⊥)
+      (line 13 ((a : ActiveAt (v .points) p) × (d < a .since + 2))
+      (line 14 (Among emptyVersion (λ (r : VersionRecord). (r .point .0 ≡ p) × (r .version .0 ≡ x)) (v .versions))
+      (line 15 (Among emptyVersion (λ (r : VersionRecord). (r .point .0 ≡ p) × (x < r .version .0)) (v .versions))
+      (line 16 ((512 ≤ length (v .versions)) ⊎ (v .frame .opening .values < (length (v .versions) + 1) * v .frame .opening .quarters))
+      (line 17 ((d ≤ v .frame .opening .first .0) × NoneLeft (v .frame))
+      end))))))))))
+  table (notices p x y d) =
+      line 1 Unopened
+      (line 2 OtherStores
+      (line 3 (Between 1 256 p × (Between 1 99999999999999 x × ((y ≤ 1) × (d ≤ 400))) → ⊥)
+      (line 5 (d < v .frame .day .0)
+      (line 11 (v .frame .opening .correction .0 < d)
+      (line 12 (ActiveAt (v .points) p → ⊥)
+      (line 24 (Among emptyVersion (λ (r : VersionRecord). (r .point .0 ≡ p) × (r .version .0 ≡ x)) (v .versions) → ⊥)
+      (line 25 ((i : ℕ) × (FoundAt (v .versions) p x i × (statusNumber (recordAt (v .versions) i .status) ≡ 1 → ⊥)))
+      (line 17 (NoticeDue (v .versions) (v .frame .opening .clearing .0) p x y d × NoneLeft (v .frame))
+      end))))))))
+  table (assigns a g d) =
+      line 1 Unopened
+      (line 2 OtherBook
+      (line 3 ((a ≤ 16) × (Between 1 64 g × (d ≤ 400)) → ⊥)
+      (line 5 (d < v .frame .day .0)
+      (line 26 (v .frame .opening .clearing .0 < d)
+      end))))
+  table (shows r g) =
+      line 1 Unopened
+      (line 2 OtherBook
+      (line 3 (((r ≡ 1) ⊎ (r ≡ 2)) × Between 1 64 g → ⊥)
+      end))
+  table (asks p x) =
+      line 1 Unopened
+      (line 3 (Between 1 256 p × Between 1 99999999999999 x → ⊥)
+      (line 12 (ActiveAt (v .points) p → ⊥)
+      (line 24 (Among emptyVersion (λ (r : VersionRecord). (r .point .0 ≡ p) × (r .version .0 ≡ x)) (v .versions) → ⊥)
+      end)))
+  table (settles r d) =
+      line 1 Unopened
+      (line 3 (((r ≡ 1) ⊎ (r ≡ 2)) × (d ≤ 400) → ⊥)
+      (line 5 (d < v .frame .day .0)
+      (line 27 (((r ≡ 1) × (d ≤ v .frame .opening .clearing .0)) ⊎ ((r ≡ 2) × (d ≤ v .frame .opening .correction .0)))
+      (line 28 (((r ≡ 1) × (v .frame .settled .first ≡ true)) ⊎ ((r ≡ 2) × (v .frame .settled .second ≡ true)))
+      (line 29 ((r ≡ 2) × (v .frame .settled .first ≡ false))
+      end)))))
+
+-- "(all but open)"
+abbrev pub allButOpen : Call → Type 0 → Table → Table
+allButOpen (opens q f c k gs) P t = t
+allButOpen (activates p k a b d) P t = line 1 P t
+allButOpen (deactivates p d) P t = line 1 P t
+allButOpen (submits p x d es) P t = line 1 P t
+allButOpen (notices p x y d) P t = line 1 P t
+allButOpen (assigns a g d) P t = line 1 P t
+allButOpen (shows r g) P t = line 1 P t
+allButOpen (asks p x) P t = line 1 P t
+allButOpen (settles r d) P t = line 1 P t
+
+-- the table on a desk in any state
+abbrev pub deskTable : Desk → Lengths → Call → Table
+deskTable d n c = allButOpen c (Within d → ⊥) (table (viewOf d) n c)
