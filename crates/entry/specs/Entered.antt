@@ -1,49 +1,85 @@
--- A run of the entries: what each was asked and lent, and what it gave and left.
+-- A run of the nine calls of the code: what each entry was called with, and what it gave and left.
+use Prim.Native.Nat.{ℕ}
 use mathlib.Core.Path.{_≡_}
-use mathlib.Core.Bool.{Bool, true, false}
-use mathlib.Core.List.{List, [], _∷_}
+use mathlib.Core.List.{List, [], _∷_, map}
+use Rattle.quantity.specs.Word.{signed}
+use Rattle.quantity.specs.declared.Day.{Day}
+use Rattle.quantity.specs.declared.PointNo.{PointNo}
+use Rattle.quantity.specs.declared.Version.{Version}
+use Rattle.message.specs.declared.DeskCall.{DeskCall}
 use Rattle.state.specs.declared.Desk.{Desk}
 use Rattle.model.specs.Agreement.{Running, Own, left}
-use Rattle.model.specs.Call.{Call, opens, activates, deactivates, submits, notices, assigns, shows, asks, settles, Stores, Lent, Reply}
+use Rattle.model.specs.Call.{Call, opens, shows, asks, Stores, Lent, Reply}
 use Rattle.model.specs.Causes.{takes}
+use Rattle.model.specs.Step.{step, withBook}
 use Rattle.model.specs.declared.Answer.{Answer}
-use Rattle.checks.specs.Stepped.{Stepped, lent}
+use Rattle.checks.specs.Stepped.{Stepped, Answered, lent, storesOf}
+use Rattle.dispatch.specs.Asked.{asked}
 
--- the calls that the entries take: all but show and status, which change nothing
-unfoldable pub changes : Call → Bool
-changes (opens q f c k gs) = true
-changes (activates p k a b d) = true
-changes (deactivates p d) = true
-changes (submits p x d es) = true
-changes (notices p x y d) = true
-changes (assigns a g d) = true
-changes (shows r g) = false
-changes (asks p x) = false
-changes (settles r d) = true
+-- one call of an entry: what it was called with, then what it gave and left
+pub data Entered : Type 0 where
+  -- `open::open`
+  byOpen : (quarters : ℕ) (first clearing correction : Day) (groups : List ℕ) (lending : Stores) (answer : Answer) (desk : Desk) (book : List ℕ) → Entered
+  -- `apply::apply`
+  byApply : (call : DeskCall) (groups series : List ℕ) (lending : Stores) (answer : Answer) (desk : Desk) (stores : Stores) → Entered
+  -- "Its number and its part come from two entries over the same input": `calls::show::show_number` and `show_row`
+  byShow : (run group : ℕ) (book : List ℕ) (answer : Answer) (part : List ℕ) → Entered
+  -- `calls::status::status`
+  byStatus : (point : PointNo) (version : Version) (answer : Answer) (desk : Desk) → Entered
 
--- one entry of a run: what it was asked and lent, its answer, and the desk and the stores as it left them
-pub record Entered : Type 0 where
-  pub call : Call
-  pub lending : Stores
-  pub answer : Answer
-  pub desk : Desk
-  pub stores : Stores
+-- the call of document 01 that it is
+abbrev pub callOf : Entered → Call
+callOf (byOpen q f c k gs lending answer desk book) = opens q (f .0) (c .0) (k .0) gs
+callOf (byApply call gs es lending answer desk stores) = asked call gs (map signed es)
+callOf (byShow run group book answer part) = shows run group
+callOf (byStatus p x answer desk) = asks (p .0) (x .0)
+
+-- the stores that were lent to it; a store that an entry has no parameter for is empty here, and no call takes it
+abbrev pub lendingOf : Entered → Stores
+lendingOf (byOpen q f c k gs lending answer desk book) = lending
+lendingOf (byApply call gs es lending answer desk stores) = lending
+lendingOf (byShow run group book answer part) = storesOf [] book []
+lendingOf (byStatus p x answer desk) = storesOf [] [] []
 
 -- the call with what was lent to it
 abbrev pub lentOf : Entered → Lent
-lentOf e = lent (e .call) (e .lending)
+lentOf e = lent (callOf e) (lendingOf e)
 
--- an entry shows no row
+-- its answer, with show's part read as signed numbers
 abbrev pub replyIn : Entered → Reply
-replyIn e = record { answer = e .answer; row = [] }
+replyIn (byOpen q f c k gs lending answer desk book) = record { answer = answer; row = [] }
+replyIn (byApply call gs es lending answer desk stores) = record { answer = answer; row = [] }
+replyIn (byShow run group book answer part) = record { answer = answer; row = map signed part }
+replyIn (byStatus p x answer desk) = record { answer = answer; row = [] }
 
--- the contract of the entry, on this desk
+-- the desk after it; show gives none back
+abbrev pub deskAfter : Desk → Entered → Desk
+deskAfter d (byOpen q f c k gs lending answer desk book) = desk
+deskAfter d (byApply call gs es lending answer desk stores) = desk
+deskAfter d (byShow run group book answer part) = d
+deskAfter d (byStatus p x answer desk) = desk
+
+-- the stores that were lent to it, as it left them
+abbrev pub storesAfter : Entered → Stores
+storesAfter (byOpen q f c k gs lending answer desk book) = withBook lending book
+storesAfter (byApply call gs es lending answer desk stores) = stores
+storesAfter (byShow run group book answer part) = storesOf [] book []
+storesAfter (byStatus p x answer desk) = storesOf [] [] []
+
+-- its contract on this desk, as its code has it
 abbrev pub Meets : Desk → Entered → Type 0
-Meets d e = Stepped d (e .call) (e .lending .values) (e .lending .book) (e .lending .log) (e .answer) (e .desk) (e .stores .values) (e .stores .book) (e .stores .log)
+Meets d (byOpen q f c k gs lending answer desk book) =
+    Stepped d (opens q (f .0) (c .0) (k .0) gs) (lending .values) (lending .book) (lending .log) answer desk (lending .values) book (lending .log)
+Meets d (byApply call gs es lending answer desk stores) =
+    Stepped d (asked call gs (map signed es)) (lending .values) (lending .book) (lending .log) answer desk (stores .values) (stores .book) (stores .log)
+Meets d (byShow run group book answer part) =
+    ((s : Stores) → answer ≡ step d (lent (shows run group) (withBook s book)) .answer)
+    × ((s : Stores) → part ≡ step d (lent (shows run group) (withBook s book)) .part)
+Meets d (byStatus p x answer desk) = Answered d (asks (p .0) (x .0)) answer desk
 
 -- the desk as the entry left it, with the stores of its opening
 unfoldable pub leftBy : Running → Entered → Running
-leftBy r e = record { desk = e .desk; stores = left (e .desk .frame .opening) (takes (e .call)) (r .stores) (e .stores) }
+leftBy r e = record { desk = deskAfter (r .desk) e; stores = left (deskAfter (r .desk) e .frame .opening) (takes (callOf e)) (r .stores) (storesAfter e) }
 
 -- after one entry after the other
 unfoldable pub endOf : Running → List Entered → Running
@@ -53,9 +89,23 @@ endOf r (e ∷ es) = endOf (leftBy r e) es
 -- "Each call gets the desk as the last one returned or left it, and nobody else writes in it or its stores meanwhile."
 unfoldable pub Run : Running → List Entered → Type 0
 Run r [] = Unit {0}
-Run r (e ∷ es) = (changes (e .call) ≡ true) × Meets (r .desk) e × Own (r .desk .frame .opening) (takes (e .call)) (r .stores) (e .lending) × Run (leftBy r e) es
+Run r (e ∷ es) = Meets (r .desk) e × Own (r .desk .frame .opening) (takes (callOf e)) (r .stores) (lendingOf e) × Run (leftBy r e) es
 
--- the nearest way to meet that: each entry is lent the desk and all three stores as the last one left them
+-- the nearest way to meet that: each store that an entry has a parameter for is lent as the last one left it
+abbrev pub LentOn : Stores → Entered → Type 0
+LentOn s (byOpen q f c k gs lending answer desk book) = lending ≡ s
+LentOn s (byApply call gs es lending answer desk stores) = lending ≡ s
+LentOn s (byShow run group book answer part) = book ≡ s .book
+LentOn s (byStatus p x answer desk) = Unit {0}
+
+-- and then stands as it left it
+abbrev pub onAfter : Stores → Entered → Stores
+onAfter s (byOpen q f c k gs lending answer desk book) = withBook lending book
+onAfter s (byApply call gs es lending answer desk stores) = stores
+onAfter s (byShow run group book answer part) = s
+onAfter s (byStatus p x answer desk) = s
+
+-- one entry after the other on the desk and the stores as the last one left them
 unfoldable pub Onward : Desk → Stores → List Entered → Type 0
 Onward d s [] = Unit {0}
-Onward d s (e ∷ es) = (changes (e .call) ≡ true) × (e .lending ≡ s) × Meets d e × Onward (e .desk) (e .stores) es
+Onward d s (e ∷ es) = LentOn s e × Meets d e × Onward (deskAfter d e) (onAfter s e) es
