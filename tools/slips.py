@@ -41,10 +41,15 @@ from pathlib import Path
 from queue import Empty, Queue
 
 ROOT = Path(__file__).resolve().parent.parent
-OPERATORS = {'&&', '||', '∷', '++', '+', '*', '-', '%', '+ℤ', '-ℤ', '≡', '→', '×', '⊎', '<', '≤', '=', ':', ';', ',', '∙'}
+OPERATORS = {'&&', '||', '∷', '++', '+', '*', '-', '/', '%', '^', '+ℤ', '-ℤ', '≡', '→', '×', '⊎', '<', '≤', '=', ':', ';', ',', '∙'}
 KEYWORDS = {'λ', 'let', 'in', 'record', 'where', 'rw', 'absurd'}
 # functions of the library: the types of their arguments, and of what they give
 LIBRARY = {'leb': (['ℕ', 'ℕ'], 'Bool'), 'ltb': (['ℕ', 'ℕ'], 'Bool'), 'eqb': (['ℕ', 'ℕ'], 'Bool')}
+
+
+def refuse(word):
+    print(f'slips: {word}', file=sys.stderr)
+    sys.exit(2)
 
 
 # ---- words of a text
@@ -243,7 +248,7 @@ def read_types(crate):
     structs = {m.group(1): re.findall(r'(?:pub )?(\w+): ([^,\n]+),', m.group(2)) for m in re.finditer(r'pub struct (\w+) \{(.*?)\n\}', text, re.S)}
     enums = {}
     for m in re.finditer(r'pub enum (\w+) \{(.*?)\n\}', text, re.S):
-        enums[m.group(1)] = [(v.group(1), re.findall(r'\w+: ([^,}]+)', v.group(2) or '') or re.findall(r'\(([^)]*)\)', v.group(2) or ''))
+        enums[m.group(1)] = [(v.group(1), re.findall(r'\w+: ([^,}]*[^,}\s])', v.group(2) or '') or re.findall(r'\(([^)]*)\)', v.group(2) or ''))
                              for v in re.finditer(r'^    (\w+)( \{.*?\}|\([^)]*\))?,$', m.group(2), re.M | re.S)]
     return structs, enums
 
@@ -252,7 +257,7 @@ def beneath(crate):
     """The crates of the repository that a crate stands on, and itself, lowest first."""
     lines = dict(re.findall(r'^(\w+):(.*)$', (ROOT / 'crates.txt').read_text(), re.M))
     if crate not in lines:
-        sys.exit(f'slips: crates.txt lists no {crate}')
+        refuse(f'crates.txt lists no {crate}')
     found = []
 
     def visit(c):
@@ -561,30 +566,36 @@ class Kinds:
                     if u.args[2][0] < v.head.start < u.args[2][1] and self.text[u.args[2][0] + 1:v.head.start].strip() == '':
                         yield self.exchange(u.args[1], v.args[1])
 
-    def owner(self, ws, i, known):
-        """The record that the field at i is taken of: that of a variable, of its field, and so on. None where that is not known."""
-        if not i:
-            return None
-        before = ws[i - 1].text
-        if not before.startswith('.'):
-            return self.sources.typed.get(known.get(before)) if i < 2 or not is_operand(ws[i - 2].text) else None
-        of = self.owner(ws, i - 1, known)
-        return self.sources.typed.get(of.get(before[1:])) if of else None
+    def owners(self, c):
+        """The record that each field of a clause's right side is taken of, by the field's place: a variable's, a call's, or that of the field before.
+        A field that has one type in all records tells what follows it too."""
+        known, types, owners = self.parameters(c), {}, {}
+        for u in uses_in(c.right):
+            if u.args and u.head.text in self.names and len(u.args) == len(self.names[u.head.text][0]):
+                types[u.args[-1][1]] = self.names[u.head.text][1]
+            elif not u.args:
+                types[u.head.end] = known.get(u.head.text) or self.names.get(u.head.text, ((), ''))[1]
+        for before, w in zip(c.right, c.right[1:]):
+            if not w.text.startswith('.'):
+                continue
+            record = self.sources.typed.get(types.get(before.end))
+            if record:
+                owners[w.start] = record
+            of = {r[w.text[1:]] for r in ([record] if record else self.sources.typed.values()) if w.text[1:] in r}
+            types[w.end] = of.pop() if len(of) == 1 else ''
+        return owners
 
     def of_field(self):
         """a field for another one of its record and type"""
-        plain = re.compile(r'u64|u32|usize|bool|ℕ|Bool|List\b.*')
         for c in self.f.clauses:
-            ws, known = c.right, self.parameters(c)
-            for i, w in enumerate(ws):
+            owners = self.owners(c)
+            for w in c.right:
                 name = w.text[1:]
                 if not w.text.startswith('.') or not name.isidentifier():
                     continue
-                inner = i + 1 < len(ws) and ws[i + 1].text == '.0'
-                record = self.owner(ws, i, known)
-                for fields in [record] if record else [r for r in self.sources.typed.values() if inner != bool(plain.fullmatch(r.get(name, '')))]:
+                for fields in [owners[w.start]] if w.start in owners else [r for r in self.sources.typed.values() if name in r]:
                     for n, t in fields.items():
-                        if n != name and t == fields.get(name):
+                        if n != name and t == fields[name]:
                             yield [(w.start, w.end, '.' + n)]
 
     def of_record(self):
@@ -858,7 +869,7 @@ def try_all(picked, crate, judge, jobs, laws, most):
         for _ in picked:
             result = ended.get()
             if result[2] == 'fault':
-                sys.exit(f'slips: {result[3]}')
+                refuse(result[3])
             yield result
     finally:
         for p in places:
@@ -888,8 +899,11 @@ def main():
     given = parser.parse_args()
     stem = lambda names: [Path(n).stem for n in names]
     if given.judge and given.crate not in beneath(given.judge):
-        sys.exit(f'slips: {given.judge} does not stand on {given.crate}')
+        refuse(f'{given.judge} does not stand on {given.crate}')
     sources = Sources(given.crate)
+    for n in stem(given.only + given.without):
+        if (given.crate, n) not in sources.files:
+            refuse(f'{given.crate} has no specs/{n}.antt')
     found = slips_of(sources, stem(given.only), stem(given.without))
     if given.kinds:
         for k, v in found.items():
