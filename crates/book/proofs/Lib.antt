@@ -2,3 +2,4 @@ pub mod Places
 pub mod Rows
 pub mod Postings
 pub mod Figures
+pub mod Numbers

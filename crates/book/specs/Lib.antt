@@ -1,4 +1,5 @@
 pub mod Bytes
+pub mod Laws
 pub mod Place
 pub mod Posting
 pub mod Row
