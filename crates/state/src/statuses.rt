@@ -58,8 +58,7 @@ pub fn settled_status(run: u64) -> Status
     ensures { λ r. ⌜ r ≡ settledStatus run ⌝ }
 {
     if run == 1 {
-        Status::Settled
-    } else {
-        Status::CorrectionSettled
+        return Status::Settled;
     }
+    Status::CorrectionSettled
 }
