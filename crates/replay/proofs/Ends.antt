@@ -6,14 +6,15 @@ use native.Mathlib.Omega.{arith}
 use lib.ListN.{length, getD}
 use lib.Seq.{getD-take}
 use Rattle.quantity.specs.Limits.{runs, groups, runRows}
-use Rattle.quantity.specs.Word.{signed}
+use Rattle.quantity.specs.Word.{word, signed}
 use Rattle.quantity.proofs.Sums.{sum-same}
 use Rattle.book.specs.Place.{groupRow, rowStart}
 use Rattle.book.proofs.Places.{row-within}
 use Rattle.model.specs.Agreement.{Running, fresh, Agree, bookFigure}
 use Rattle.model.specs.Call.{Stores, Lengths, Told}
 use Rattle.model.specs.Log.{logNumbers}
-use Rattle.model.specs.Plain.{workedOut, logOf, viewIn}
+use Rattle.model.specs.Plain.{Worked, workedOut, logOf, energiesOf, viewIn, figure}
+use Rattle.model.specs.Series.{figureOf}
 use Rattle.model.proofs.Ends.{holds-agree}
 use Rattle.model.proofs.Invariant.{holds-view}
 use Rattle.replay.specs.Replay.{joined, Holding, Leaving}
@@ -32,6 +33,7 @@ fresh-leaving s =
     record {
       values = refl;
       log = refl;
+      words = λ run k q _ _ _ l. absurd (omega arith);
       figures = λ run k q _ _ _ l. absurd (omega arith);
       sum = λ run q _ _ l. absurd (omega arith);
       others = refl;
@@ -46,12 +48,24 @@ module _ (s : Stores) (r : Running) (h : List Told) (G : Opened s r h) where
   agrees : Agree [] own [] h
   agrees = holds-agree [] [] own h refl (G .holds)
 
-  -- a figure of the book is one of them
+  -- a number of the whole book is one of its own
+  own-number : (run k q : ℕ) → 1 ≤ run → run ≤ runs → k < runRows → q < r .desk .frame .opening .quarters → getD (r .stores .book) (rowStart (r .desk .frame .opening .quarters) run k + q) 0 ≡ getD (ownOf r .book) (rowStart (r .desk .frame .opening .quarters) run k + q) 0
+  own-number run k q a b c l =
+      let Q = r .desk .frame .opening .quarters in
+      sym (getD-take (figuresOf (r .desk .frame .opening)) (r .stores .book) (rowStart Q run k + q) 0 (omega (arith, row-within Q run k a b c)))
+
+  -- it is the word of the plain desk's figure
+  own-word : (run k q : ℕ) → 1 ≤ run → run ≤ runs → k < runRows → q < r .desk .frame .opening .quarters → getD (r .stores .book) (rowStart (r .desk .frame .opening .quarters) run k + q) 0 ≡ word (figure h run k q)
+  unfolding figure
+  own-word run k q a b c l =
+      own-number run k q a b c l
+      ∙ G .holds .kept .booked .at run k q a b c l
+      ∙ ap (λ (w : Worked). word (figureOf (w .points) (w .groups) (w .versions) (energiesOf h) run k q)) (G .holds .works)
+
+  -- and read as the book's figure
   own-figure : (run k q : ℕ) → 1 ≤ run → run ≤ runs → k < runRows → q < r .desk .frame .opening .quarters → signed (getD (r .stores .book) (rowStart (r .desk .frame .opening .quarters) run k + q) 0) ≡ bookFigure own run k q
   unfolding bookFigure
-  own-figure run k q a b c l =
-      let Q = r .desk .frame .opening .quarters in
-      ap signed (sym (getD-take (figuresOf (r .desk .frame .opening)) (r .stores .book) (rowStart Q run k + q) 0 (omega (arith, row-within Q run k a b c))))
+  own-figure run k q a b c l = ap signed (own-number run k q a b c l)
 
   opened-leaving : Leaving h s (r .stores)
   opened-leaving =
@@ -60,6 +74,7 @@ module _ (s : Stores) (r : Running) (h : List Told) (G : Opened s r h) where
       record {
         values = G .rows .words;
         log = over-split (logNumbers (logOf h)) (s .log) (r .stores .log) (4 * r .desk .frame .used) (omega (arith, K .framed .used, K .logLong, G .holds .used)) (rw (G .holds .used) (K .logged)) (G .log);
+        words = rw (← A .opening) own-word;
         figures = rw (← A .opening) (λ run k q a b c l. own-figure run k q a b c l ∙ A .figures run k q a b c l);
         sum =
             rw (← A .opening)

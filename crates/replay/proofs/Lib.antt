@@ -1,4 +1,5 @@
 pub mod Accepted
+pub mod Bounds
 pub mod Ends
 pub mod Going
 pub mod Lengths

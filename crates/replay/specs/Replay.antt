@@ -62,12 +62,13 @@ over new old = new ++ drop (length new) old
 pub record Holding (h : List Told) (d : Desk) : Type 0 where
   pub view : viewOf d ≡ viewIn h
 
--- the stores after the calls; s are the stores as they were lent at first. Used rows of values are the submissions' words; the book has the plain
--- desk's figures in its first 162 × Q places, and with them the outside exchange as their sum; all else is as it was, and so is all of the book
--- where the desk was never opened (Q is 0 then).
+-- the stores after the calls; s are the stores as they were lent at first. Used rows of values are the submissions' words; the book has the words of
+-- the plain desk's figures in its first 162 × Q places, which are read as these figures, and with them the outside exchange as their sum; all else
+-- is as it was, and so is all of the book where the desk was never opened (Q is 0 then).
 pub record Leaving (h : List Told) (s after : Stores) : Type 0 where
   pub values : after .values ≡ over (map word (joined (energiesOf h))) (s .values)
   pub log : after .log ≡ over (logNumbers (logOf h)) (s .log)
+  pub words : (run k q : ℕ) → 1 ≤ run → run ≤ runs → k < runRows → q < openingOf h .quarters → getD (after .book) (rowStart (openingOf h .quarters) run k + q) 0 ≡ word (figure h run k q)
   pub figures : (run k q : ℕ) → 1 ≤ run → run ≤ runs → k < runRows → q < openingOf h .quarters → signed (getD (after .book) (rowStart (openingOf h .quarters) run k + q) 0) ≡ figure h run k q
   pub sum : (run q : ℕ) → 1 ≤ run → run ≤ runs → q < openingOf h .quarters → sumTo groupCount (λ (g : ℕ). signed (getD (after .book) (rowStart (openingOf h .quarters) run (groupRow g) + q) 0)) ≡ outside h run q
   pub others : drop (bookRows * openingOf h .quarters) (after .book) ≡ drop (bookRows * openingOf h .quarters) (s .book)
