@@ -3,6 +3,8 @@
  *
  *     book MESSAGE-FILE BOOK-FILE
  *
+ *     cc -std=c99 book.c files.c $(pkg-config --cflags --libs emorizugu) -o book && ./book month.msg new.book
+ *
  * Prints each call's number and answer, then what the desk holds. Exit status: 0 where the whole file was run and the
  * book is written, 1 where the file is refused or opens no desk (there is no book then), 2 where a file cannot be read
  * or written or there is no memory. A message on standard error says which.

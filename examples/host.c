@@ -3,6 +3,8 @@
  *
  *     host MESSAGE-FILE BOOK-FILE QUARTERS RUN GROUP
  *
+ *     cc -std=c99 host.c files.c $(pkg-config --cflags --libs emorizugu) -o host && ./host month.msg month.book 2 1 5
+ *
  * Exit status: 0 where both could be read, 1 where the message file is refused (its verdict and the month are printed
  * all the same), 2 where there is nothing to print: wrong arguments, a file that cannot be read, a book of another
  * length, a number outside its range. A message on standard error says which.

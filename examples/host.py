@@ -1,9 +1,8 @@
 #!/usr/bin/env python3
 """A host in Python: a message file through a fresh desk, then each group's month.
 
-    cc -shared -o libemorizugu.so -Wl,--whole-archive "$(pkg-config --variable=prefix emorizugu)/lib/libemorizugu.a" \
-        -Wl,--no-whole-archive
-    host.py ./libemorizugu.so month.msg
+    cc -shared -o libemorizugu.so -Wl,--whole-archive "$(pkg-config --variable=prefix emorizugu)/lib/libemorizugu.a" -Wl,--no-whole-archive
+    python3 host.py ./libemorizugu.so month.msg
 """
 
 import ctypes

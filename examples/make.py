@@ -1,10 +1,10 @@
 #!/usr/bin/env python3
-"""Writes the files that the host example is run on, to the folder given or to its own.
+"""Writes the files that the examples are run on, to the folder given or to its own.
 
 Message files: `example.msg` is the one that document 01 writes out, `month.msg` its sample month, packed from
 `month.calls`; the others are empty or damaged, and each is refused for one cause. Books, both of two quarter hours:
 `month.book` has the figures of document 01's sample month, `edges.book` figures at both ends of the 64-bit range, and
-`short.book` lacks its last byte.
+`short.book` lacks its last byte. `july.csv` has the series of `july.calls`.
 """
 
 import pathlib
@@ -91,9 +91,56 @@ BOOKS = {
 }
 
 
+# July: watt-hours of a quarter hour by the hour of the day, for homes, works and sun.
+HOMES = (21, 18, 16, 15, 15, 17, 24, 33, 37, 36, 34, 35, 38, 36, 33, 32, 34, 40, 48, 53, 52, 45, 36, 28)
+WORKS = (40, 39, 39, 39, 42, 55, 78, 96, 104, 106, 107, 105, 101, 104, 105, 102, 94, 80, 66, 57, 51, 47, 44, 42)
+SUN = (0, 0, 0, 0, 0, 2, 9, 21, 37, 53, 66, 75, 79, 77, 70, 58, 43, 27, 13, 4, 0, 0, 0, 0)
+
+
+def july(quarter):
+    """The series of July in a quarter hour, counted from 0, by column."""
+    day, hour, part = quarter // 96, quarter % 96 // 4, quarter % 4
+
+    def curve(hours, scale):
+        """Between one hour and the next, in even steps."""
+        return (hours[hour] * (4 - part) + hours[(hour + 1) % 24] * part) * scale // 4
+
+    stir = (quarter * 7919 + day * 104729) % 1013
+    weekend = day % 7 in (5, 6)
+    works = curve(WORKS, 310 if weekend else 700)
+    homes = curve(HOMES, 900 if weekend else 800)
+    sun = curve(SUN, (190, 420, 560, 610, 330, 120, 480)[day % 7])
+    five, seven = homes + stir, works + stir * 3
+    row = {
+        "border": 2 * homes + 2 * works - sun + 7 * stir,
+        "tie": works + homes // 2 - sun // 2 + stir,
+        "group_5": five,
+        "area_1": homes // 3 + stir // 2,
+        "group_6": homes // 4 + 200,
+        "transfer": works // 50 - sun // 40,
+        "group_7": seven,
+        # A meter read again from the 12th to the 14th; a works' own sun left out before.
+        "group_5_second": five + (homes // 20 if 11 <= day < 14 else 0),
+        "group_7_second": seven - sun // 8,
+    }
+    return row
+
+
+def kilowatt_hours(energy):
+    """Watt-hours as kilowatt-hours with three decimals."""
+    return f"{'-' if energy < 0 else ''}{abs(energy) // 1000}.{abs(energy) % 1000:03}"
+
+
+def table():
+    """The csv of July: a header, then a line a quarter hour."""
+    rows = [july(quarter) for quarter in range(31 * 96)]
+    lines = [["quarter", *rows[0]]] + [[str(at), *map(kilowatt_hours, row.values())] for at, row in enumerate(rows, 1)]
+    return "".join(";".join(line) + "\n" for line in lines).encode()
+
+
 def main():
     folder = pathlib.Path(sys.argv[1]) if len(sys.argv) > 1 else OWN
-    for name, content in {**MESSAGES, **BOOKS}.items():
+    for name, content in {**MESSAGES, **BOOKS, "july.csv": table()}.items():
         (folder / name).write_bytes(content)
 
 

@@ -1,26 +1,10 @@
 #!/usr/bin/env bash
 # Tests of ./install and of the hosts over what it puts in place: C, C++, Python; entries with NULL, and on a small stack.
-# Prints a line for each test and, as its very last line, 'N passed, M failed'; the exit status is 0 where M is 0.
 # Writes under target/ only.
 set -u
 cd "$(dirname "$0")/.." || exit 2
 work=$PWD/target/tests/install
-passed=0
-failed=0
-
-# holds NAME COMMAND..: the command ends with 0.
-holds() {
-    local name=$1
-    shift
-    if "$@" >"$work/out" 2>&1; then
-        passed=$((passed + 1))
-        echo "ok    $name"
-    else
-        failed=$((failed + 1))
-        echo "FAIL  $name"
-        tail -n 20 "$work/out" | cut -c 1-300
-    fi
-}
+. tests/shared.sh
 
 prefix=$work/prefix
 sums='0 refused, ending 0
@@ -30,37 +14,51 @@ group 4: 200 Wh
 group 5: 95000 Wh
 group 6: 16700 Wh'
 
-# The flags of the .pc file, with pkg-config where it is there.
-flags() {
-    if command -v pkg-config >/dev/null 2>&1; then
-        PKG_CONFIG_PATH=$prefix/lib/pkgconfig pkg-config --cflags --libs emorizugu
-    else
-        sed -n "s#^Cflags: #-#; s#^--I#-I#; s#^Libs: ##; s#\${prefix}#$prefix#gp" "$prefix/lib/pkgconfig/emorizugu.pc"
-    fi
+# pkg-config, or what it says of the .pc file where there is none.
+pkg_config() {
+    command -v pkg-config >/dev/null 2>&1 && return
+    mkdir -p "$work/bin"
+    cat >"$work/bin/pkg-config" <<END
+#!/bin/sh
+value() { sed -n "s#\$1##; t found; b; :found; s#\\\${prefix}#$prefix#g; p" "$prefix/lib/pkgconfig/emorizugu.pc"; }
+case \$1 in
+--variable=prefix) value '^prefix=' ;;
+--cflags) value '^Cflags: ' && value '^Libs: ' ;;
+esac
+END
+    chmod +x "$work/bin/pkg-config"
+}
+
+# lines FILE: the command lines at the head of an example, run in a copy of the folder; a host's text is left in `out`.
+lines() {
+    rm -rf "$work/examples"
+    cp -R examples "$work/examples" || return 1
+    sed -n 's#^[ */]*    \(\(cc\|g++\|python3\) .*\)#\1#p' "examples/$1" >"$work/lines"
+    [ -s "$work/lines" ] || return 1
+    (cd "$work/examples" && PATH=$work/bin:$PATH PKG_CONFIG_PATH=$prefix/lib/pkgconfig sh -e "$work/lines") >"$work/out"
 }
 
 # Compilers take the flags apart.
 # shellcheck disable=SC2046
-in_c() {
-    gcc -std=c99 -pedantic -Wall -Wextra -Werror -O2 -o "$work/book" examples/book.c examples/files.c $(flags) &&
-        "$work/book" examples/month.msg "$work/month.book" && cmp "$work/month.book" examples/month.book
+compiled() { # compiler, program, what is compiled..
+    "$1" -pedantic -Wall -Wextra -Werror -O2 -o "$work/$2" "${@:3}" $(PATH=$work/bin:$PATH PKG_CONFIG_PATH=$prefix/lib/pkgconfig pkg-config --cflags --libs emorizugu)
 }
 
-# shellcheck disable=SC2046
+in_c() {
+    lines book.c && cmp "$work/examples/new.book" examples/month.book && lines host.c &&
+        compiled gcc book -std=c99 examples/book.c examples/files.c
+}
+
 in_cpp() {
-    g++ -std=c++17 -pedantic -Wall -Wextra -Werror -O2 -o "$work/host" examples/host.cc $(flags) &&
-        [ "$("$work/host" examples/month.msg)" = "$sums" ]
+    lines host.cc && [ "$(cat "$work/out")" = "$sums" ] && compiled g++ host -std=c++17 examples/host.cc
 }
 
 in_python() {
-    gcc -shared -o "$work/libemorizugu.so" -Wl,--whole-archive "$prefix/lib/libemorizugu.a" -Wl,--no-whole-archive &&
-        [ "$(python3 examples/host.py "$work/libemorizugu.so" examples/month.msg)" = "$sums" ]
+    lines host.py && [ "$(cat "$work/out")" = "$sums" ]
 }
 
-# shellcheck disable=SC2046
 entries() {
-    gcc -std=gnu99 -pedantic -Wall -Wextra -Werror -O2 -o "$work/entries" tests/entries.c $(flags) -lpthread &&
-        "$work/entries" examples/month.msg
+    compiled gcc entries -std=gnu99 tests/entries.c -lpthread && "$work/entries" examples/month.msg
 }
 
 nothing_left() {
@@ -73,10 +71,10 @@ holds 'install' ./install "$prefix"
 holds 'the program in place' sh -c "'$prefix/bin/desk' run examples/month.calls | grep -q '^13 calls, none refused'"
 holds 'the desk program in place' sh -c "'$prefix/bin/emorizugu' <examples/month.msg | grep -qx 'T 2 2 80000'"
 holds 'the man page in place' grep -q '^.TH DESK 1' "$prefix/share/man/man1/desk.1"
-holds 'the host in C' in_c
+pkg_config
+holds 'the hosts in C' in_c
 holds 'the host in C++' in_cpp
 holds 'the host in Python' in_python
 holds 'NULL with length 0, a small stack' entries
 holds 'taken away' nothing_left
-echo "$passed passed, $failed failed"
-[ "$failed" -eq 0 ]
+finish

@@ -1,45 +1,10 @@
-#!/bin/sh
+#!/usr/bin/env bash
 # Tests of the desk program by ./run, and of ./run itself.
-# Prints a line for each test and, as its very last line, 'N passed, M failed'; the exit status is 0 where M is 0.
 # Writes under target/ only. Builds the program first where it is missing or old.
 set -u
 cd "$(dirname "$0")/.." || exit 2
 work=$PWD/target/tests/program
-passed=0
-failed=0
-
-pass() {
-    passed=$((passed + 1))
-    echo "ok    $1"
-}
-
-fail() {
-    failed=$((failed + 1))
-    echo "FAIL  $1"
-}
-
-# expect NAME STATUS COMMAND..: what is wanted on standard output stands on standard input; a line after '! ' is wanted on
-# standard error.
-expect() {
-    name=$1
-    wanted=$2
-    shift 2
-    cat >"$work/wanted"
-    echo "exit status $wanted" >>"$work/wanted"
-    "$@" >"$work/out" 2>"$work/err" </dev/null
-    status=$?
-    {
-        cat "$work/out"
-        sed 's/^/! /' "$work/err"
-        echo "exit status $status"
-    } >"$work/written"
-    if diff "$work/wanted" "$work/written" >"$work/log"; then
-        pass "$name"
-    else
-        fail "$name"
-        head -n 20 "$work/log" | cut -c 1-300
-    fi
-}
+. tests/shared.sh
 
 # pack NAME: the text on standard input, as the message file NAME.
 pack() {
@@ -315,16 +280,26 @@ END
     expect 'run: standard output closed' 2 sh -c './run >&-' <<END
 ! run: standard output is closed
 END
+    expect 'run: all streams closed' 2 sh -c './run - <&- >&- 2>&-' </dev/null
+    expect 'run: a file, standard input closed' 0 sh -c './run examples/kind.msg <&-' <<END
+1 0
+2 0
+F 33 29
+END
     expect 'run: a folder on standard input' 2 sh -c './run - <examples' <<END
 ! run: standard input: is a folder
 END
-    expect 'run: no room to keep standard input' 2 sh -c "TMPDIR='$work/nowhere' ./run - <examples/month.msg 2>&1 | sed 's/^mktemp.*/mktemp/'; exit 2" <<END
-mktemp
-run: standard input cannot be kept: there is no room for a temporary file
-END
+    full_disk
     expect 'run: a text file' 0 ./run examples/month.calls <<END
 F 33 0
 ! run: examples/month.calls looks like text; ./desk run takes text, and ./desk pack makes a message file of it
+END
+    expect 'run: text on standard input' 0 sh -c 'cat examples/month.calls | ./run -' <<END
+F 33 0
+! run: standard input looks like text; ./desk run takes text, and ./desk pack makes a message file of it
+END
+    expect 'run: an empty standard input' 0 sh -c './run - </dev/null' <<END
+! run: standard input is empty: it has no calls
 END
     ln -sf "$PWD/run" "$work/link"
     expect 'run: a link to it' 0 "$work/link" examples/kind.msg <<END
@@ -333,6 +308,35 @@ END
 F 33 29
 END
     without_toolchain
+}
+
+# Standard input, or a named pipe, that cannot be kept whole: no folder for it, a file that may not grow, a disk without space. Nothing is run, and nothing
+# is left behind.
+full_disk() {
+    local kept=$work/kept
+    expect 'run: no folder to keep standard input in' 2 env TMPDIR="$work/nowhere" sh -c './run - <examples/month.msg' <<END
+! run: standard input cannot be kept: there is no room for a temporary file in $work/nowhere
+END
+    rm -rf "$kept"
+    mkdir -p "$kept/bin"
+    expect 'run: a limit below the length of standard input' 2 env TMPDIR="$kept" sh -c "ulimit -f 8 && ./run - <'$work/full.msg'" <<END
+! run: standard input cannot be kept whole in $kept: File too large
+END
+    expect 'run: a limit below the length of a named pipe' 2 env TMPDIR="$kept" sh -c "(cat '$work/full.msg' >'$work/pipe' 2>&1 &) && ulimit -f 8 && ./run '$work/pipe'" <<END
+! run: $work/pipe cannot be kept whole in $kept: File too large
+END
+    # A temporary file on a disk that is full.
+    printf '#!/bin/sh\nln -s /dev/full "$TMPDIR/held" && echo "$TMPDIR/held"\n' >"$kept/bin/mktemp"
+    chmod +x "$kept/bin/mktemp"
+    expect 'run: a full disk' 2 env TMPDIR="$kept" PATH="$kept/bin:$PATH" sh -c './run - <examples/month.msg' <<END
+! run: standard input cannot be kept whole in $kept: No space left on device
+END
+    holds 'run: nothing is left behind' test "$(ls "$kept")" = bin
+    expect 'run: a limit that is far enough' 0 env TMPDIR="$kept" sh -c "ulimit -f 8 && ./run - <examples/kind.msg" <<END
+1 0
+2 0
+F 33 29
+END
 }
 
 # A copy where there is no rt: without a program, and with one that is older than its sources.
@@ -381,8 +385,6 @@ if ./run examples/empty.msg >"$work/log" 2>&1; then
     desk_on_small_stack
     run_itself
 else
-    fail 'the program is built'
-    tail -n 20 "$work/log" | cut -c 1-300
+    fail 'the program is built' "$work/log"
 fi
-echo "$passed passed, $failed failed"
-[ "$failed" -eq 0 ]
+finish
