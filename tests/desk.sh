@@ -1,61 +1,11 @@
 #!/usr/bin/env bash
 # Tests of ./desk: a clerk's mistakes with the words for them, text and message files, lists and their forms, the page, streams and terminals,
 # a month of 2,976 quarter hours; the table of causes against the header and the library.
-# Prints a line for each test and, as its very last line, 'N passed, M failed'; the exit status is 0 where M is 0.
 # Writes under target/ only. Builds the program first where it is missing or old.
 set -u
 cd "$(dirname "$0")/.." || exit 2
 work=$PWD/target/tests/desk
-passed=0
-failed=0
-
-pass() {
-    passed=$((passed + 1))
-    echo "ok    $1"
-}
-
-fail() {
-    failed=$((failed + 1))
-    echo "FAIL  $1"
-    [ -z "${2:-}" ] || head -n 20 "$2" | cut -c 1-300
-}
-
-# expect NAME STATUS COMMAND..: what is wanted on standard output stands on standard input; a line after '! ' is wanted on standard error.
-expect() {
-    local name=$1 wanted=$2 status
-    shift 2
-    cat >"$work/wanted"
-    echo "exit status $wanted" >>"$work/wanted"
-    "$@" >"$work/out" 2>"$work/err" </dev/null
-    status=$?
-    {
-        cat "$work/out"
-        sed 's/^/! /' "$work/err"
-        echo "exit status $status"
-    } >"$work/written"
-    if diff "$work/wanted" "$work/written" >"$work/log"; then pass "$name"; else fail "$name" "$work/log"; fi
-}
-
-# has NAME STATUS PATTERN COMMAND..: what the command writes, on both streams, has a line that matches.
-has() {
-    local name=$1 wanted=$2 pattern=$3 status
-    shift 3
-    "$@" >"$work/out" 2>&1 </dev/null
-    status=$?
-    if [ "$status" -eq "$wanted" ] && grep -aqE -- "$pattern" "$work/out"; then
-        pass "$name"
-    else
-        echo "exit status $status" >>"$work/out"
-        fail "$name" "$work/out"
-    fi
-}
-
-# holds NAME COMMAND..: the command ends with 0.
-holds() {
-    local name=$1
-    shift
-    if "$@" >"$work/out" 2>&1; then pass "$name"; else fail "$name" "$work/out"; fi
-}
+. tests/shared.sh
 
 # text NAME: the text on standard input as a file; its path.
 text() {
@@ -125,16 +75,22 @@ refusals() {
         'settle run=1 day=30'
     refusal 'settle run 1: refused, 28: line 2 settled run 1' 'nothing: it is settled once' 'settle run=settlement day=31' 'settle run=1 day=32'
     refusal 'settle run 2: refused, 29: run 1 is not settled yet' 'put `settle run=1` in front of it' 'settle run=correction day=151'
+    refusal 'settle run 2: refused, 29: run 1 is not settled: its settlement in line 2 was refused, 27' 'correct line 2' 'settle run=1 day=30' \
+        'settle run=2 day=151'
 }
 
-# One typed day, 40 for 4, refuses what follows; the desk says where it comes from.
+# One typed day, 40 for 4, refuses what follows; the desk says where all of it comes from.
 typed_day() {
     local file
-    file=$(sed 's/^activate point=6 \(.*\) day=0/activate point=6 \1 day=40/' examples/month.calls | text typed.calls)
+    file=$(sed '17s/day=4 /day=40 /' examples/july.calls | text typed.calls)
+    cp examples/july.csv "$work"
     ./desk run "$file" >"$work/out" 2>&1
-    [ $? -eq 1 ] && grep -qxF '6 of these come from line 19: activate point 6; look there first' "$work/out" &&
-        grep -qxF '13 calls, 6 refused; day 40; no run settled; 2 quarter hours' "$work/out" &&
-        grep -qxF 'the first refused: line 22, call 8' "$work/out"
+    [ $? -eq 1 ] && grep -qxF "line 18, call 10: submit point 2 version 1: refused, 5: day 4 lies before the desk's day 40, which line 17 set" "$work/out" &&
+        grep -qxF '    to mend it: give it day 40 or later; if day 40 is a mistake, correct line 17' "$work/out" &&
+        grep -qxF 'line 30, call 20: notice point 7 version 2: refused, 24: point 7 has no version 2: its submission in line 28 was refused, 5' "$work/out" &&
+        grep -qxF '12 of these come from line 17: submit point 1 version 1; look there first' "$work/out" &&
+        grep -qxF '21 calls, 12 refused; day 40; no run settled; 2976 quarter hours' "$work/out" &&
+        grep -qxF 'the first refused: line 18, call 10' "$work/out"
 }
 
 not_open() {
@@ -221,7 +177,55 @@ group               run 1, Wh               run 2, Wh          difference, Wh
     1                      29                      25                      -4
     5                       3                       7                       4
 END
+    picks "$file"
+    holds 'lists: the same rows in each form' python3 tests/forms.py ./desk "$file"
     holds 'page: changes of selections' grep -q '<li>day 31: point 2, run 2: version 11 in the place of 10, which run 1 selects</li>' <(./desk page "$file")
+}
+
+# A run and a group picked from each list; rows stay in their order and keep their numbers.
+picks() {
+    local file=$1
+    expect 'log: one run' 0 ./desk log "$file" --run 2 --csv <<END
+row,day,point,run,version
+4,31,2,2,11
+END
+    expect 'log: one group' 0 ./desk log "$file" --group 5 --csv <<END
+row,day,point,run,version
+1,2,2,1,10
+4,31,2,2,11
+END
+    expect 'log: one group and one run' 0 ./desk log "$file" --run=1 --group=5 --json <<END
+[
+{"row":1,"day":2,"point":2,"run":1,"version":10}
+]
+END
+    expect 'log: a group without a sum' 0 ./desk log "$file" --group 1 --csv <<END
+row,day,point,run,version
+END
+    expect 'points: one group' 0 ./desk points "$file" --group 5 --csv <<END
+point,kind,area,partner,since,version,status,run_1,run_2
+2,group-sum,1,5,0,10,settled,yes,no
+2,group-sum,1,5,0,11,correction settlement data,no,yes
+END
+    expect 'points: one run' 0 ./desk points "$file" --run 2 --csv <<END
+point,kind,area,partner,since,version,status,run_1,run_2
+1,exchange,1,0,0,7,settled,yes,yes
+2,group-sum,1,5,0,11,correction settlement data,no,yes
+END
+    expect 'points: one group and one run' 0 ./desk points "$file" --run 1 --group 5 --csv <<END
+point,kind,area,partner,since,version,status,run_1,run_2
+2,group-sum,1,5,0,10,settled,yes,no
+END
+    expect "points: a group of the transmission operator's" 0 ./desk points examples/month.calls --group 6 --csv <<END
+point,kind,area,partner,since,version,status,run_1,run_2
+5,operator-sum,0,6,0,1,settlement data,yes,yes
+END
+    expect 'figures: one group and one run' 0 ./desk figures "$file" --run 2 --group 5 --json <<END
+[
+{"run":2,"quarter":1,"group":5,"figure":3},
+{"run":2,"quarter":2,"group":5,"figure":4}
+]
+END
 }
 
 # ---- text
@@ -265,6 +269,12 @@ END
     printf 'settle run=1 day=31 # \377\000 caf\351\n' >"$work/any.calls"
     holds 'pack: a comment of any bytes' cmp <(./desk pack "$work/any.calls") <(printf '\7\1\37')
     has 'pack: a byte order mark' 2 'begins with a byte order mark' ./desk pack <(printf '\357\273\277settle run=1 day=31\n')
+    printf 'settle run=1 day=31\r\nshow\nsettle run=1\r\n' >"$work/returns.calls"
+    expect 'pack: carriage returns and other mistakes' 2 ./desk pack "$work/returns.calls" <<END
+! desk: $work/returns.calls: line 1: has a carriage return, as 2 lines have; line ends are line feeds alone
+! desk: $work/returns.calls: line 2: there is no call 'show'; calls are open, activate, deactivate, submit, notice, assign, settle
+! desk: $work/returns.calls: line 3: settle lacks day
+END
     has 'pack: carriage returns' 2 'line 1: has a carriage return, as 2 lines have; line ends are line feeds alone' \
         ./desk pack <(printf 'settle run=1 day=31\r\nsettle run=1 day=31\r\n')
     has 'run: UTF-16' 2 'is text in UTF-16' ./desk run <(printf '\377\376s\000')
@@ -294,6 +304,39 @@ END
 ! desk: $file: line 2: q.csv: line 1: has no column 'power'; its columns are time, energy, other
 ! desk: $file: line 3: none.csv: no such file
 END
+    tables
+}
+
+# table WORDS LINE..: a csv of these lines, with a column x, that does not fit.
+table() {
+    local words=$1
+    shift
+    printf '%s\n' "$@" >"$work/t.csv"
+    echo 'submit point=1 version=1 day=2 unit=kWh energies=@t.csv:x' >"$work/t.calls"
+    expect "pack: a table: $words" 2 ./desk pack "$work/t.calls" <<END
+! desk: $work/t.calls: line 1: t.csv: $words
+END
+}
+
+tables() {
+    printf '%s\n' 'time,"a, ""b""; c",x' '"00:00, first",1,"1.5"' '00:15, 2 , -0.001 ' >"$work/t.csv"
+    echo 'submit point=1 version=1 day=2 unit=kWh energies=@t.csv:x' >"$work/t.calls"
+    expect 'print: a table with quotes' 0 ./desk print "$work/t.calls" <<END
+submit point=1 version=1 day=2 energies=1500,-1  # offset 0
+END
+    table 'line 2: has 4 cells, and the header 3' 'a,x,b' '1,1,000,2'
+    table 'line 3: has 1 cells, and the header 2' 'a;x' '1;2' ''
+    table "line 1: has two columns 'x'" 'x;a;x' '1;2;3'
+    table 'line 2: has a quote that is not closed' 'a,x' '1,"2'
+    table 'line 2: goes on behind a closing quote' 'a,x' '1,"2"3'
+    table "line 2: an energy in kWh is digits with up to three decimals behind a point: '1,5'; 2 further lines do not fit: 4, 5" \
+        'a;x' '1;1,5' '2;1.5' '3;1,6' '4;'
+    table "line 3: an energy in kWh is digits with up to three decimals behind a point: 'y'; line 4 does not fit either" 'x' '1' 'y' 'z'
+    table '2981 energies, and a file carries at most 2980' x $(seq 2981)
+    printf '\357\273\277x\n1\n' >"$work/t.csv"
+    has 'pack: a byte order mark in a table' 2 't.csv: begins with a byte order mark' ./desk pack "$work/t.calls"
+    printf 'x\r\n1\r\n' >"$work/t.csv"
+    has 'pack: carriage returns in a table' 2 't.csv: line 1: has a carriage return; line ends are line feeds alone' ./desk pack "$work/t.calls"
 }
 
 there_and_back() {
@@ -337,12 +380,35 @@ END
     expect 'a full disk, by name' 2 ./desk pack examples/month.calls -o /dev/full <<END
 ! desk: /dev/full cannot be written: no space left
 END
+    expect 'a file, standard input closed' 0 sh -c './desk log examples/month.calls --run 2 --csv <&-' <<END
+row,day,point,run,version
+END
+    limits
     has 'an output in no folder' 2 'cannot be written: no such file' ./desk pack examples/month.calls -o "$work/none/x.msg"
     holds 'a reader that stops early' sh -c "./desk figures examples/month.calls --all | head -n 1 | grep -q run"
     has 'pack to a terminal' 2 'a message file is bytes' script -qec './desk pack examples/month.calls' /dev/null
     has 'colour on a terminal' 0 $'\033' script -qec 'TERM=xterm ./desk run examples/month.calls' /dev/null
     holds 'no colour in a pipe' sh -c "! ./desk run examples/month.calls | grep -q '$(printf '\033')'"
     holds 'no colour with NO_COLOR' sh -c "! NO_COLOR=1 script -qec './desk run examples/month.calls' /dev/null | grep -q '$(printf '\033')'"
+}
+
+# A file that may not grow: whole or not at all, and a word.
+limits() {
+    local folder=$work/limits
+    rm -rf "$folder"
+    mkdir "$folder"
+    echo before >"$folder/page.html"
+    expect 'a file that may not grow' 2 sh -c "ulimit -f 8 && ./desk page examples/month.calls -o '$folder/page.html'" <<END
+! desk: $folder/page.html cannot be written: it is larger than a file may be
+END
+    holds 'it is as it was, with nothing beside it' sh -c "[ \"\$(ls '$folder')\" = page.html ] && [ \"\$(cat '$folder/page.html')\" = before ]"
+    expect 'standard output that may not grow' 2 sh -c "ulimit -f 8 && ./desk figures examples/month.calls --all >'$folder/list'" <<END
+! desk: standard output cannot be written: it is larger than a file may be
+END
+    cp examples/month.calls "$folder/$(printf 'caf\351')"
+    has 'a name that is no text' 0 '^13 calls, none refused' ./desk run "$folder/$(printf 'caf\351')"
+    ./desk pack "$folder/$(printf 'caf\351')" -o "$folder/$(printf '\351.msg')"
+    holds 'an output whose name is no text' cmp "$folder/$(printf '\351.msg')" examples/month.msg
 }
 
 # ---- help
@@ -356,14 +422,37 @@ help() {
     has 'version' 0 '^desk [0-9.]+, library 2$' ./desk --version
     has 'no command' 2 'desk run' ./desk
     has 'a wrong command' 2 "there is no command 'runn'; commands are run, figures" ./desk runn
-    has 'a wrong option' 2 'desk log has no option --group' ./desk log x --group 3
+    has 'help of a wrong command' 2 "there is no command 'runn'" ./desk help runn
+    has 'words behind --version' 2 "nothing follows: 'x'" ./desk --version x
+    has 'a wrong option' 2 'desk log has no option --runn; its options are --csv, --json, --run, --group$' ./desk log x --runn 3
+    has 'an option of others: run' 2 'desk run has no option --group; figures, log, points have it$' ./desk run x --group 3
+    has 'an option of others: page' 2 'desk page has no option --run; figures, log, points have it$' ./desk page x --run 1
+    has 'an option of others: causes' 2 'desk causes has no option --run; figures, log, points have it$' ./desk causes --run 1
+    has 'an option of another' 2 'desk log has no option --all; desk figures has it$' ./desk log x --all
+    has 'an option twice' 2 '--run stands twice' ./desk log x --run 1 --run 2
+    has 'two forms' 2 '--csv and --json do not go together' ./desk log x --csv --json
+    has 'an option without its number' 2 "--run takes a number from 1 to 2: ''" ./desk log x --run
+    has 'an option with a value that it does not take' 2 '--csv takes no value' ./desk log x --csv=1
+    has 'two files' 2 'desk log takes one file' ./desk log x y
     has 'a group out of range' 2 "--group takes a number from 1 to 64: '65'" ./desk figures x --group 65
     if command -v man >/dev/null 2>&1; then
         ./desk --man >"$work/desk.1"
         has 'man page' 0 'desk figures FILE' man -l "$work/desk.1"
+        holds 'man page: every line of the help' man_page
     fi
     ln -sf "$PWD/desk" "$work/link"
     has 'a link to desk' 0 '^13 calls, none refused' "$work/link" run examples/month.calls
+}
+
+# Every word of each command's help stands in the man page, in the same order.
+man_page() {
+    local command words
+    words=$(MANWIDTH=200 man -l "$work/desk.1" | tr -s ' \n' ' ')
+    for command in run figures log points page pack print causes; do
+        ./desk "$command" --help | sed '/^Exit status/,$d' | sed 1,4d | while IFS= read -r line; do
+            case $words in *"$(echo "$line" | tr -s ' ' ' ')"*) ;; *) echo "$command: $line" && return 1 ;; esac
+        done || return 1
+    done
 }
 
 # ---- causes
@@ -401,10 +490,46 @@ month() {
     holds "the page in $(((end - start) / 1000000)) ms" test $(((end - start) / 1000000)) -lt 1000
     holds 'the page below 5 MB' test "$(wc -c <"$work/large.html")" -lt 5000000
     holds "the page's numbers are those of figures" python3 tests/page.py "$work/large.html" "$work/large.csv"
+    holds 'its lists in each form' python3 tests/forms.py ./desk "$work/large.msg" --group 20
+    page_script large "$work/large.msg"
     holds 'the page has no outside parts' sh -c "! grep -qE 'https?:|src=|@import|url\(' '$work/large.html'"
-    ./desk page examples/month.calls >"$work/small.html"
-    ./desk figures examples/month.calls --all --csv >"$work/small.csv"
+    page_of small examples/month.calls
     holds "the sample month's page" python3 tests/page.py "$work/small.html" "$work/small.csv"
+    page_script small examples/month.calls
+    page_of two "$work/two.calls"
+    page_script two "$work/two.calls"
+    cp examples/example.msg "$work/{{log}}<&.msg"
+    page_of odd "$work/{{log}}<&.msg" 2>/dev/null
+    page_script odd "$work/{{log}}<&.msg" 2>/dev/null
+    holds 'a name with marks and tags' grep -q '<h1>Month of .*/{{log}}&lt;&amp;.msg</h1>' "$work/odd.html"
+}
+
+# page_of NAME MONTH: the page and the figures.
+page_of() {
+    ./desk page "$2" >"$work/$1.html"
+    ./desk figures "$2" --all --csv >"$work/$1.csv"
+}
+
+# page_script NAME MONTH: what the script of the page draws, tells and sorts.
+page_script() {
+    ./desk points "$2" --csv >"$work/$1.points"
+    ./desk log "$2" --csv >"$work/$1.log"
+    holds "the page's script: $1" node tests/page.js "$work/$1.html" "$work/$1.csv" "$work/$1.points" "$work/$1.log"
+}
+
+# ---- README
+
+# Every command of README that stands behind a `$`, with what it writes.
+readme() {
+    local commands=0 command
+    while IFS= read -r command; do
+        commands=$((commands + 1))
+        awk -v command="    \$ $command" '$0 == command { on = 1; next } on && !/^(    |$)/ { exit } on { sub(/^    /, ""); print }' README.md |
+            sed -e :a -e '/^\n*$/{$d;N;ba' -e '}' >"$work/readme"
+        sh -c "$command" >"$work/out" 2>&1 </dev/null
+        holds "README: $command" diff "$work/readme" "$work/out"
+    done < <(sed -n 's/^    \$ //p' README.md)
+    [ "$commands" -gt 0 ] || fail 'README: no command'
 }
 
 mkdir -p "$work" || exit 2
@@ -423,8 +548,8 @@ if ./desk --version >"$work/log" 2>&1; then
     help
     causes
     month
+    readme
 else
     fail 'the program is built' "$work/log"
 fi
-echo "$passed passed, $failed failed"
-[ "$failed" -eq 0 ]
+finish

@@ -1,5 +1,7 @@
 //! The table of causes, as docs/CAUSES.md has it.
 
+use std::ffi::OsString;
+
 use crate::arguments::Form;
 use crate::output::{self, Failure};
 use crate::sheet::{Cell, Column, Sheet};
@@ -50,9 +52,9 @@ pub fn mend(number: u64) -> String {
 }
 
 /// `desk causes`.
-pub fn tell(words: &[String], form: Form) -> Result<i32, Failure> {
+pub fn tell(words: &[OsString], form: Form) -> Result<i32, Failure> {
     let mut numbers = Vec::new();
-    for word in words {
+    for word in words.iter().map(|word| word.to_string_lossy()) {
         match word.parse() {
             Ok(number) if all().any(|cause| cause.number == number) => numbers.push(number),
             _ => {

@@ -27,22 +27,26 @@ const HELPS: [Help; 8] = [
         usage: "desk figures FILE [--run N] [--group N] [--all] [--csv | --json]",
         short: "each group's figure in each quarter hour",
         body: "Figures that are not 0, by run, quarter hour and group, in watt-hours; with --all those that are 0 too.\n\
+            --run picks a run, --group a balance group.\n\
             Columns: run, quarter, group, figure.",
         example: "desk figures examples/month.calls --run 1 --group 5 --csv",
     },
     Help {
         name: "log",
-        usage: "desk log FILE [--run N] [--csv | --json]",
+        usage: "desk log FILE [--run N] [--group N] [--csv | --json]",
         short: "the log: every change of a selection, in the order in which they came",
-        body: "Columns: row (counted from 1), day, point, run, version (the one selected from then on).",
+        body: "--run picks the changes of that run, --group those of points whose series is a sum of that balance group\n\
+            (group-sum and operator-sum, the group as partner). Rows keep their numbers.\n\
+            Columns: row (counted from 1), day, point, run, version (the one selected from then on).",
         example: "desk log examples/month.calls --json",
     },
     Help {
         name: "points",
-        usage: "desk points FILE [--run N] [--csv | --json]",
+        usage: "desk points FILE [--run N] [--group N] [--csv | --json]",
         short: "each point's series with its versions, their status, and which of them count",
-        body: "Active points by number, a point's versions by version; a point without a version has one row;\n\
-            with --run only the versions that count in that run.\n\
+        body: "Active points by number, a point's versions by version; a point without a version has one row.\n\
+            --run picks the versions that count in that run, --group the points whose series is a sum of that balance group\n\
+            (group-sum and operator-sum, the group as partner).\n\
             Columns: point, kind, area, partner, since (the day of its activation), version, status, run_1 and run_2\n\
             (yes where the version counts in that run, else no).",
         example: "desk points examples/month.calls",

@@ -1,12 +1,14 @@
 //! A month as it is given: text or a message file, told apart by content, read whole.
 
+use std::borrow::Cow;
+use std::ffi::OsStr;
 use std::fs;
 use std::io::{self, IsTerminal, Read};
 use std::path::{Path, PathBuf};
 
 use crate::calls::{Call, Place};
 use crate::library;
-use crate::output::{words, Failure};
+use crate::output::{self, words, Failure};
 use crate::text;
 
 /// A month's calls, packed, and where each of them stands.
@@ -17,11 +19,14 @@ pub struct Month {
 }
 
 /// The bytes of a file, of a named pipe, or of standard input for `-`.
-pub fn read(name: &str) -> Result<Vec<u8>, Failure> {
+pub fn read(name: &OsStr) -> Result<Vec<u8>, Failure> {
     if name == "-" {
         let mut bytes = Vec::new();
+        if output::input_closed() {
+            return Err(Failure::new("standard input is closed"));
+        }
         if io::stdin().is_terminal() {
-            crate::output::warn("reads standard input; end it with Ctrl-D");
+            output::warn("reads standard input; end it with Ctrl-D");
         }
         return io::stdin()
             .read_to_end(&mut bytes)
@@ -30,20 +35,20 @@ pub fn read(name: &str) -> Result<Vec<u8>, Failure> {
                 Failure::new(format!("standard input cannot be read: {}", words(&error)))
             });
     }
-    fs::read(name).map_err(|error| Failure::new(format!("{name}: {}", words(&error))))
+    fs::read(name).map_err(|error| Failure::new(format!("{}: {}", shown(name), words(&error))))
 }
 
 /// The name as it is shown.
-pub fn shown(name: &str) -> &str {
+pub fn shown(name: &OsStr) -> Cow<'_, str> {
     if name == "-" {
-        "standard input"
+        "standard input".into()
     } else {
-        name
+        name.to_string_lossy()
     }
 }
 
 /// The folder that names in the text are looked up in.
-fn folder(name: &str) -> PathBuf {
+fn folder(name: &OsStr) -> PathBuf {
     match Path::new(name).parent() {
         Some(folder) if name != "-" => folder.to_path_buf(),
         _ => PathBuf::new(),
@@ -59,15 +64,14 @@ pub fn is_text(bytes: &[u8]) -> bool {
 }
 
 /// The text's packed calls; every bad line is named at once.
-pub fn packed(name: &str, bytes: &[u8]) -> Result<Month, Failure> {
-    let name = name.to_string();
-    let shown = shown(&name).to_string();
+pub fn packed(name: &OsStr, bytes: &[u8]) -> Result<Month, Failure> {
+    let shown = shown(name).into_owned();
     if bytes.starts_with(MARK) {
         return Err(Failure::new(format!(
             "{shown}: begins with a byte order mark; save it as UTF-8 without one"
         )));
     }
-    match text::packed(bytes, &folder(&name)) {
+    match text::packed(bytes, &folder(name)) {
         Ok((file, calls)) => Ok(Month {
             name: shown,
             file,
@@ -104,7 +108,7 @@ pub fn unpacked(file: &[u8]) -> Vec<Call> {
 }
 
 /// The month that a file holds.
-pub fn month(name: &str) -> Result<Month, Failure> {
+pub fn month(name: &OsStr) -> Result<Month, Failure> {
     let bytes = read(name)?;
     let shown = shown(name);
     if bytes.iter().all(|byte| byte.is_ascii_whitespace()) {
@@ -126,7 +130,7 @@ pub fn month(name: &str) -> Result<Month, Failure> {
     }
     let calls = unpacked(&bytes);
     Ok(Month {
-        name: shown.to_string(),
+        name: shown.into_owned(),
         file: bytes,
         calls,
     })

@@ -1,6 +1,10 @@
 //! The proved library's entries, each behind a safe function. They ask nothing of their caller but slices with their lengths.
 
 use crate::calls::{self, MOST_FIELDS, MOST_QUARTERS};
+use crate::entries::{
+    emorizugu_difference, emorizugu_figure, emorizugu_read, emorizugu_replay, emorizugu_sum,
+    emorizugu_version, emorizugu_write,
+};
 
 /// The most versions that a desk holds, and its points.
 pub const VERSIONS: usize = 512;
@@ -16,60 +20,6 @@ const VERSION_PLACES: usize = 4;
 /// The places of a replay's report: calls answered, offset, quarter hours, log rows, versions held, calls refused, the
 /// first of them, the day, run 1 settled, run 2 settled.
 const REPORT: usize = 10;
-
-extern "C" {
-    fn emorizugu_replay(
-        file: *const u8,
-        length: usize,
-        values: *mut u64,
-        values_length: usize,
-        book: *mut u64,
-        book_length: usize,
-        log: *mut u64,
-        log_length: usize,
-        series: *mut u64,
-        series_length: usize,
-        answers: *mut u64,
-        answers_length: usize,
-        report: *mut u64,
-        report_length: usize,
-        points: *mut u64,
-        points_length: usize,
-        versions: *mut u64,
-        versions_length: usize,
-    ) -> u64;
-    fn emorizugu_figure(
-        book: *const u8,
-        length: usize,
-        quarters: u64,
-        run: u64,
-        group: u64,
-        quarter: u64,
-    ) -> u64;
-    fn emorizugu_sum(book: *const u64, length: usize, quarters: u64, run: u64, row: u64) -> u64;
-    fn emorizugu_difference(book: *const u64, length: usize, quarters: u64, row: u64) -> u64;
-    fn emorizugu_version() -> u64;
-    fn emorizugu_read(
-        file: *const u8,
-        length: usize,
-        start: u64,
-        series: *mut u64,
-        series_length: usize,
-        call: *mut u64,
-        call_length: usize,
-    ) -> u64;
-    fn emorizugu_write(
-        kind: u64,
-        fields: *const u64,
-        fields_length: usize,
-        series: *const u64,
-        series_length: usize,
-        output: *mut u8,
-        output_length: usize,
-        size: *mut u64,
-        size_length: usize,
-    ) -> u64;
-}
 
 /// A call as it was read.
 pub struct ReadCall {
@@ -194,6 +144,13 @@ pub struct Point {
     pub partner: u64,
     /// The version that counts in run 1 and in run 2; 0 where there is none.
     pub selected: [u64; 2],
+}
+
+impl Point {
+    /// The balance group whose sum the series is, where it is one: kinds 2 and 4 have it as their partner.
+    pub fn group(&self) -> Option<u64> {
+        matches!(self.kind, 2 | 4).then_some(self.partner)
+    }
 }
 
 /// A version held.

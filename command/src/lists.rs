@@ -1,5 +1,5 @@
 //! `desk figures`, `desk log` and `desk points`. Each list has one order in every form: figures by run, quarter hour and group; the log as it was
-//! written; points by number, and a point's versions by version.
+//! written; points by number, and a point's versions by version. What is picked stays in that order.
 
 use crate::arguments::Wanted;
 use crate::calls::{name_in, SERIES, STATUSES};
@@ -57,12 +57,23 @@ const LOG: &[Column] = &[
     Column("version", 14),
 ];
 
-/// The rows of the log in their own order.
+/// Whether a point is asked for: with `--group` those whose series is that group's sum.
+fn picked(wanted: &Wanted, point: &Point) -> bool {
+    wanted
+        .group
+        .is_none_or(|asked| point.group() == Some(asked))
+}
+
+/// The rows of the log in their own order. A point of the log has a version, so it is active.
 pub fn log(wanted: &Wanted) -> Result<i32, Failure> {
     let ran = month::run(&wanted.file)?;
     let mut sheet = Sheet::new(wanted.form, LOG);
+    let of_group = |number: u64| {
+        let mut points = ran.replay.points.iter();
+        points.any(|point| point.number == number && picked(wanted, point))
+    };
     for (at, row) in ran.replay.log.iter().enumerate() {
-        if wanted.run.is_none_or(|asked| asked == row.run) {
+        if wanted.run.is_none_or(|asked| asked == row.run) && of_group(row.point) {
             sheet.row(&[
                 number(at as u64 + 1),
                 number(row.day),
@@ -112,7 +123,12 @@ fn point_row(sheet: &mut Sheet, point: &Point, version: Option<&Version>) {
 pub fn points(wanted: &Wanted) -> Result<i32, Failure> {
     let ran = month::run(&wanted.file)?;
     let mut sheet = Sheet::new(wanted.form, POINTS);
-    for point in &ran.replay.points {
+    for point in ran
+        .replay
+        .points
+        .iter()
+        .filter(|point| picked(wanted, point))
+    {
         let counts = |version: &&Version| match wanted.run {
             Some(run) => point.selected[run as usize - 1] == version.version,
             None => true,

@@ -4,7 +4,7 @@
 mod arguments;
 mod calls;
 mod causes;
-
+mod entries;
 mod help;
 mod input;
 mod library;
@@ -14,6 +14,7 @@ mod numbers;
 mod output;
 mod page;
 mod refusals;
+mod series;
 mod sheet;
 mod summary;
 mod text;
@@ -31,10 +32,7 @@ pub const NOTHING: i32 = 2;
 /// The program's own start, and not Rust's: that one opens closed streams on nothing, and a closed output would pass for a written one.
 #[no_mangle]
 pub extern "C" fn main() -> i32 {
-    let words = std::env::args_os()
-        .skip(1)
-        .map(|word| word.to_string_lossy().into_owned())
-        .collect();
+    let words = std::env::args_os().skip(1).collect();
     let outcome = output::streams()
         .and_then(|()| arguments::read(words))
         .and_then(|wanted| perform(&wanted));

@@ -1,5 +1,7 @@
 //! A month that was run.
 
+use std::ffi::OsStr;
+
 use crate::input::{self, Month};
 use crate::library::{self, Replay};
 use crate::output::{self, Failure};
@@ -12,7 +14,7 @@ pub struct Ran {
 }
 
 /// Runs the file of this name.
-pub fn run(name: &str) -> Result<Ran, Failure> {
+pub fn run(name: &OsStr) -> Result<Ran, Failure> {
     let month = input::month(name)?;
     // One answer more than there are calls, so that a damaged file is told as such.
     let replay = library::replay(&month.file, month.calls.len() + 1);

@@ -1,10 +1,7 @@
-//! Numbers as people write them: energies in a line, in a file with a number a line, in a column of a csv with a header.
+//! Numbers as people write them: fields by number or by name, energies in watt-hours or kilowatt-hours.
 
-use std::fs;
-use std::path::Path;
-
-use crate::calls::{named, names_of, MOST_QUARTERS};
-use crate::output;
+use crate::calls::{named, names_of};
+use crate::series::{few, Files};
 
 /// What a message file can carry: fields from 0 to 2^63 - 1, energies from -2^62 to 2^62 - 1.
 const FIELDS: (i128, i128) = (0, (1 << 63) - 1);
@@ -106,7 +103,7 @@ pub fn field(name: &str, word: &str) -> Result<u64, String> {
 }
 
 /// An energy in watt-hours.
-fn energy(word: &str, unit: Unit) -> Result<u64, String> {
+pub fn energy(word: &str, unit: Unit) -> Result<u64, String> {
     let name = "an energy";
     if unit == Unit::WattHours {
         let number = whole(word).ok_or_else(|| no_number(name, word))?;
@@ -129,121 +126,14 @@ fn energy(word: &str, unit: Unit) -> Result<u64, String> {
     }
 }
 
-fn few(count: usize) -> Result<(), String> {
-    if count > MOST_QUARTERS {
-        return Err(format!(
-            "{count} energies, and a file carries at most {MOST_QUARTERS}"
-        ));
-    }
-    Ok(())
-}
-
 /// A line's energies: `none`, numbers with commas between, `@FILE` or `@FILE:COLUMN`.
-pub fn energies(word: &str, unit: Unit, folder: &Path) -> Result<Vec<u64>, String> {
+pub fn energies(word: &str, unit: Unit, files: &mut Files) -> Result<Vec<u64>, String> {
     if let Some(source) = word.strip_prefix('@') {
-        return from_file(source, unit, folder);
+        return files.energies(source, unit);
     }
-    let words: Vec<&str> = if word == "none" {
-        Vec::new()
-    } else {
-        word.split(',').collect()
-    };
-    let series: Vec<u64> = words
-        .iter()
-        .map(|word| energy(word, unit))
-        .collect::<Result<_, _>>()?;
-    few(series.len())?;
-    Ok(series)
-}
-
-/// The lines of a file of numbers.
-fn lines(name: &str, folder: &Path) -> Result<Vec<String>, String> {
-    let bytes = fs::read(folder.join(name))
-        .map_err(|error| format!("{name}: {}", output::words(&error)))?;
-    if bytes.starts_with(b"\xEF\xBB\xBF") {
-        return Err(format!(
-            "{name}: begins with a byte order mark; save it as UTF-8 without one"
-        ));
+    if word == "none" {
+        return Ok(Vec::new());
     }
-    let text = String::from_utf8(bytes).map_err(|_| format!("{name}: is no text in UTF-8"))?;
-    if let Some(at) = text.split('\n').position(|line| line.contains('\r')) {
-        return Err(format!(
-            "{name}: line {}: has a carriage return; line ends are line feeds alone",
-            at + 1
-        ));
-    }
-    let text = text.strip_suffix('\n').unwrap_or(&text);
-    Ok(if text.is_empty() {
-        Vec::new()
-    } else {
-        text.split('\n').map(str::to_string).collect()
-    })
-}
-
-/// A cell without the quotes around it.
-fn cell(word: &str) -> &str {
-    let word = word.trim_matches([' ', '\t']);
-    word.strip_prefix('"')
-        .and_then(|word| word.strip_suffix('"'))
-        .unwrap_or(word)
-}
-
-/// Where a column stands: the mark between cells, and its place.
-struct Column {
-    mark: char,
-    at: usize,
-}
-
-impl Column {
-    /// By its name in a header.
-    fn named(name: &str, header: &str) -> Result<Column, String> {
-        let mark = if header.contains(';') { ';' } else { ',' };
-        let names: Vec<&str> = header.split(mark).map(cell).collect();
-        let at = names.iter().position(|other| *other == name);
-        let known = || {
-            format!(
-                "has no column {}; its columns are {}",
-                quoted(name),
-                names.join(", ")
-            )
-        };
-        Ok(Column {
-            mark,
-            at: at.ok_or_else(known)?,
-        })
-    }
-
-    fn of<'a>(&self, line: &'a str) -> Result<&'a str, String> {
-        let found = line.split(self.mark).nth(self.at);
-        found.map(cell).ok_or("ends before the column".to_string())
-    }
-}
-
-/// The energies of a file: `FILE` with a number a line, or `FILE:COLUMN`.
-fn from_file(source: &str, unit: Unit, folder: &Path) -> Result<Vec<u64>, String> {
-    let (name, column) = match source.rsplit_once(':') {
-        Some((name, column)) => (name, Some(column)),
-        None => (source, None),
-    };
-    let lines = lines(name, folder)?;
-    let mut numbered = lines.iter().map(String::as_str).zip(1..);
-    let column = match column {
-        Some(column) => {
-            let header = numbered.next().map_or("", |(line, _)| line);
-            Some(
-                Column::named(column, header)
-                    .map_err(|wrong| format!("{name}: line 1: {wrong}"))?,
-            )
-        }
-        None => None,
-    };
-    let number = |line| match &column {
-        Some(column) => energy(column.of(line)?, unit),
-        None => energy(cell(line), unit),
-    };
-    let series: Vec<u64> = numbered
-        .map(|(line, at)| number(line).map_err(|wrong| format!("{name}: line {at}: {wrong}")))
-        .collect::<Result<_, _>>()?;
-    few(series.len()).map_err(|wrong| format!("{name}: {wrong}"))?;
-    Ok(series)
+    let series: Result<_, _> = word.split(',').map(|word| energy(word, unit)).collect();
+    few(series?)
 }

@@ -1,8 +1,10 @@
 //! What the program writes: standard output, a file whole or not at all, complaints on standard error.
 
+use std::ffi::OsString;
 use std::fs::{self, File, OpenOptions};
 use std::io::{self, ErrorKind, IsTerminal, Write};
 use std::path::Path;
+use std::sync::atomic::{AtomicBool, Ordering};
 
 use crate::NOTHING;
 
@@ -39,6 +41,7 @@ pub fn words(error: &io::Error) -> String {
         ErrorKind::PermissionDenied => "no permission".to_string(),
         ErrorKind::IsADirectory => "is a folder".to_string(),
         ErrorKind::StorageFull => "no space left".to_string(),
+        ErrorKind::FileTooLarge => "it is larger than a file may be".to_string(),
         _ => {
             let text = error.to_string();
             text.split(" (os error").next().unwrap_or(&text).to_string()
@@ -51,16 +54,38 @@ fn is_open(stream: u32) -> bool {
         || !Path::new("/proc/self/fd").exists()
 }
 
-/// Each standard stream is open: a file that is opened later must not take the place of one.
+extern "C" {
+    fn signal(number: i32, action: usize) -> usize;
+}
+
+/// A file that may not grow further is an error of a write, as a full disk is, and not the program's end.
+fn ignore_limit() {
+    const SIGXFSZ: i32 = 25;
+    const IGNORE: usize = 1;
+    unsafe { signal(SIGXFSZ, IGNORE) };
+}
+
+static INPUT_CLOSED: AtomicBool = AtomicBool::new(false);
+
+/// Whether standard input was closed at the start.
+pub fn input_closed() -> bool {
+    INPUT_CLOSED.load(Ordering::Relaxed)
+}
+
+/// Standard output is open. A stream that is closed gets nothing in its place, so that no file that is opened later takes it.
 pub fn streams() -> Result<(), Failure> {
-    if !is_open(2) {
-        // A place for complaints, so that no file gets them.
-        std::mem::forget(OpenOptions::new().write(true).open("/dev/null"));
-    }
-    for (stream, name) in [(0, "input"), (1, "output")] {
-        if !is_open(stream) {
-            return Err(Failure::new(format!("standard {name} is closed")));
+    ignore_limit();
+    let closed = [0, 1, 2].map(|stream| !is_open(stream));
+    INPUT_CLOSED.store(closed[0], Ordering::Relaxed);
+    for stream in 0..3 {
+        if closed[stream] {
+            // The lowest free number is this stream's.
+            let nothing = OpenOptions::new().read(true).write(true).open("/dev/null");
+            std::mem::forget(nothing);
         }
+    }
+    if closed[1] {
+        return Err(Failure::new("standard output is closed"));
     }
     Ok(())
 }
@@ -91,10 +116,14 @@ pub fn warn(line: &str) {
 }
 
 /// The bytes to a file, whole or not at all: to a neighbour first, which then takes its name.
-pub fn write_file(name: &str, bytes: &[u8]) -> Result<(), Failure> {
-    let refused =
-        |error: io::Error| Failure::new(format!("{name} cannot be written: {}", words(&error)));
-    let path = Path::new(name);
+pub fn write_file(path: &Path, bytes: &[u8]) -> Result<(), Failure> {
+    let refused = |error: io::Error| {
+        Failure::new(format!(
+            "{} cannot be written: {}",
+            path.display(),
+            words(&error)
+        ))
+    };
     if path.exists() && !path.is_file() {
         // A device or a named pipe has no neighbour.
         return fs::write(path, bytes).map_err(refused);
@@ -112,9 +141,9 @@ pub fn write_file(name: &str, bytes: &[u8]) -> Result<(), Failure> {
 }
 
 /// The bytes to the file that is asked for, or to standard output.
-pub fn deliver(to: &Option<String>, bytes: &[u8]) -> Result<(), Failure> {
+pub fn deliver(to: &Option<OsString>, bytes: &[u8]) -> Result<(), Failure> {
     match to {
-        Some(name) => write_file(name, bytes),
+        Some(name) => write_file(Path::new(name), bytes),
         None => write(bytes),
     }
 }

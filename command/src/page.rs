@@ -110,6 +110,9 @@ fn log(replay: &Replay) -> String {
     replay.log.iter().enumerate().map(cells).collect()
 }
 
+/// The most refused calls that the page names one by one.
+const SHOWN: usize = 1000;
+
 fn refused(ran: &Ran) -> String {
     let refusals = refusals::of(ran);
     if refusals.is_empty() {
@@ -132,8 +135,12 @@ fn refused(ran: &Ran) -> String {
             )
         })
         .collect();
-    let items: String = refusals.iter().map(item).collect();
-    format!("<h2 class=\"bad\">Refused calls</h2>{first}<div class=\"scroll short\"><ol class=\"calls\" id=\"refused\">\n{items}</ol></div>")
+    let items: String = refusals.iter().take(SHOWN).map(item).collect();
+    let more = match refusals.len().saturating_sub(SHOWN) {
+        0 => String::new(),
+        more => format!("<li>and {more} more: desk run</li>\n"),
+    };
+    format!("<h2 class=\"bad\">Refused calls</h2>{first}<div class=\"scroll short\"><ol class=\"calls\" id=\"refused\">\n{items}{more}</ol></div>")
 }
 
 fn changed(replay: &Replay) -> String {
@@ -252,32 +259,35 @@ pub fn page(ran: &Ran) -> String {
     let damage = ran.damage().map_or(String::new(), |damage| {
         format!("<p class=\"bad\">{}</p>", escaped(&damage))
     });
-    let mut page = PAGE.to_string();
-    for (mark, text) in [
-        (
-            "{{title}}",
-            escaped(&format!("Month of {}", ran.month.name)),
-        ),
-        (
-            "{{mood}}",
-            if ran.status() == ACCEPTED {
-                "good"
-            } else {
-                "bad"
-            }
-            .to_string(),
-        ),
-        ("{{headline}}", escaped(&headline(ran))),
-        ("{{damage}}", damage),
-        ("{{refused}}", refused(ran)),
-        ("{{changes}}", changed(replay)),
-        ("{{groups}}", rows),
-        ("{{deltas}}", deltas(replay)),
-        ("{{points}}", points(replay)),
-        ("{{log}}", log(replay)),
-        ("{{data}}", data),
-    ] {
-        page = page.replace(mark, &text);
+    let mood = if ran.status() == ACCEPTED {
+        "good"
+    } else {
+        "bad"
+    };
+    filled(&[
+        ("title", escaped(&format!("Month of {}", ran.month.name))),
+        ("mood", mood.to_string()),
+        ("headline", escaped(&headline(ran))),
+        ("damage", damage),
+        ("refused", refused(ran)),
+        ("changes", changed(replay)),
+        ("groups", rows),
+        ("deltas", deltas(replay)),
+        ("points", points(replay)),
+        ("log", log(replay)),
+        ("data", data),
+    ])
+}
+
+/// The page with a text in the place of each `{{name}}`; what is put in is not looked at again.
+fn filled(texts: &[(&str, String)]) -> String {
+    let mut parts = PAGE.split("{{");
+    let mut page = parts.next().unwrap_or("").to_string();
+    for part in parts {
+        let (name, rest) = part.split_once("}}").unwrap_or((part, ""));
+        let text = texts.iter().find(|(other, _)| *other == name);
+        page.push_str(text.map_or("", |(_, text)| text));
+        page.push_str(rest);
     }
     page
 }

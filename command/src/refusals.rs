@@ -1,6 +1,6 @@
 //! What was refused, in words: why, by the calls before it that the library accepted, and what would mend it.
 
-use std::collections::HashMap;
+use std::collections::{BTreeMap, HashMap};
 
 use crate::calls::{counted, Call, ACTIVATE, ASSIGN, DEACTIVATE, NOTICE, OPEN, SETTLE, SUBMIT};
 use crate::causes;
@@ -13,7 +13,7 @@ pub struct Refusal<'a> {
     pub number: u64,
     pub why: String,
     pub mend: String,
-    /// The earlier call that it comes from.
+    /// The earlier call that it comes from: where that was refused too, the one that it came from.
     pub from: Option<&'a Call>,
 }
 
@@ -40,16 +40,19 @@ struct Before<'a> {
     submitted: HashMap<(u64, u64), &'a Call>,
     noticed: HashMap<(u64, u64), &'a Call>,
     settled: HashMap<u64, &'a Call>,
-    /// The last refused call of a kind on a point and a version, with its number.
+    /// The last refused call of a kind on a point and a version, or of a run, with its number.
     refused: HashMap<(u64, u64, u64), (&'a Call, u64)>,
 }
 
 /// A refusal's words: why, what would mend it, the call that it comes from.
 type Words<'a> = (String, String, Option<&'a Call>);
 
-/// The places of a point and a version in the calls that have them; elsewhere 0.
+/// A call's point and version, where it has them; a settlement's run; elsewhere 0.
 fn about(call: &Call) -> (u64, u64) {
-    (call.field("point"), call.field("version"))
+    match call.kind {
+        SETTLE => (call.field("run"), 0),
+        _ => (call.field("point"), call.field("version")),
+    }
 }
 
 impl<'a> Before<'a> {
@@ -130,12 +133,28 @@ impl<'a> Before<'a> {
                     by,
                 )
             }
-            29 => (
+            29 => self.run_open(),
+            _ => fallback(),
+        }
+    }
+
+    fn run_open(&self) -> Words<'a> {
+        match self.refused.get(&(SETTLE, 1, 0)) {
+            Some((by, number)) => {
+                let place = by.place.short();
+                (
+                    format!(
+                        "run 1 is not settled: its settlement in {place} was refused, {number}"
+                    ),
+                    format!("correct {place}"),
+                    Some(by),
+                )
+            }
+            None => (
                 "run 1 is not settled yet".to_string(),
                 "put `settle run=1` in front of it".to_string(),
                 None,
             ),
-            _ => fallback(),
         }
     }
 
@@ -455,24 +474,30 @@ fn bad_opening(call: &Call) -> Words<'_> {
     (wrong.join("; "), "correct what is named".to_string(), None)
 }
 
+/// The energies of a refused submission, for the words on a field.
+fn energies_of(ran: &Ran, call: &Call, number: u64) -> Vec<i64> {
+    if number != 3 || call.kind != SUBMIT {
+        return Vec::new();
+    }
+    let mut reader = Reader::from(&ran.month.file, call.place.offset);
+    reader.next();
+    reader.energies(call.energies).collect()
+}
+
 /// Every refused call of a month.
 pub fn of(ran: &Ran) -> Vec<Refusal<'_>> {
     let mut before = Before::default();
     let mut refusals = Vec::new();
+    // Where a refused call comes from, by its number.
+    let mut roots: HashMap<usize, &Call> = HashMap::new();
     for (call, answer) in ran.month.calls.iter().zip(&ran.replay.answers) {
         if *answer == 0 {
             before.accept(call);
             continue;
         }
-        let mut reader = Reader::from(&ran.month.file, call.place.offset);
-        let energies: Vec<i64> = match *answer == 3 && call.kind == SUBMIT {
-            true => {
-                reader.next();
-                reader.energies(call.energies).collect()
-            }
-            false => Vec::new(),
-        };
-        let (why, mend, from) = before.words(call, *answer, &energies);
+        let (why, mend, by) = before.words(call, *answer, &energies_of(ran, call, *answer));
+        let from = by.map(|by| roots.get(&by.place.number).copied().unwrap_or(by));
+        roots.extend(from.map(|from| (call.place.number, from)));
         refusals.push(Refusal {
             call,
             number: *answer,
@@ -487,17 +512,10 @@ pub fn of(ran: &Ran) -> Vec<Refusal<'_>> {
 
 /// The earlier calls that several refusals come from, with how many, in the file's order.
 pub fn sources<'a>(refusals: &[Refusal<'a>]) -> Vec<(&'a Call, usize)> {
-    let mut sources: Vec<(&Call, usize)> = Vec::new();
+    let mut sources: BTreeMap<usize, (&Call, usize)> = BTreeMap::new();
     for from in refusals.iter().filter_map(|refusal| refusal.from) {
-        match sources
-            .iter_mut()
-            .find(|(call, _)| call.place.number == from.place.number)
-        {
-            Some((_, count)) => *count += 1,
-            None => sources.push((from, 1)),
-        }
+        sources.entry(from.place.number).or_insert((from, 0)).1 += 1;
     }
-    sources.retain(|(_, count)| *count > 1);
-    sources.sort_by_key(|(call, _)| call.place.number);
-    sources
+    let several = |(_, count): &(&Call, usize)| *count > 1;
+    sources.into_values().filter(several).collect()
 }

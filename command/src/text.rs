@@ -8,6 +8,7 @@ use crate::calls::{Call, Place, DELTAS, KINDS, OPEN, SUBMIT};
 use crate::library::{self, Read, Reader};
 use crate::numbers::{self, quoted, Unit};
 use crate::output::{self, Failure};
+use crate::series::Files;
 use crate::{causes, input, ACCEPTED, NOTHING, REFUSED};
 
 /// A line's fields by name, each once.
@@ -82,7 +83,7 @@ fn unit_of(word: Option<&str>) -> Result<Unit, String> {
 }
 
 /// A line's call and its energies.
-fn call_of(words: &[&str], folder: &Path) -> Result<(u64, Vec<u64>, Vec<u64>), String> {
+fn call_of(words: &[&str], files: &mut Files) -> Result<(u64, Vec<u64>, Vec<u64>), String> {
     let Some(at) = KINDS.iter().position(|kind| kind.name == words[0]) else {
         let names: Vec<&str> = KINDS.iter().map(|kind| kind.name).collect();
         return Err(format!(
@@ -112,70 +113,76 @@ fn call_of(words: &[&str], folder: &Path) -> Result<(u64, Vec<u64>, Vec<u64>), S
             let Some(series) = series else {
                 return Err(fields.err().unwrap_or("submit lacks energies".to_string()));
             };
-            Ok((kind, fields?, numbers::energies(series, unit, folder)?))
+            Ok((kind, fields?, numbers::energies(series, unit, files)?))
         }
         _ => Ok((kind, given.numbers(form.fields, None, "")?, Vec::new())),
     }
 }
 
-/// The words of a line in front of its comment.
+/// A line in front of its comment.
+fn content(line: &[u8]) -> &[u8] {
+    line.split(|byte| *byte == b'#').next().unwrap_or(line)
+}
+
+/// The words of a line in front of its comment. A carriage return at the end is told of apart.
 fn words_of(line: &[u8]) -> Result<Vec<&str>, String> {
-    let content = line.split(|byte| *byte == b'#').next().unwrap_or(line);
-    let text = std::str::from_utf8(content)
+    let text = std::str::from_utf8(content(line))
         .map_err(|_| "has bytes that are no text in UTF-8, and not in a comment".to_string())?;
     Ok(text
+        .trim_end_matches('\r')
         .split([' ', '\t'])
         .filter(|word| !word.is_empty())
         .collect())
 }
 
-/// Whether a carriage return stands in front of a line's comment.
-fn has_return(line: &[u8]) -> bool {
-    line.iter()
-        .take_while(|byte| **byte != b'#')
-        .any(|byte| *byte == b'\r')
+/// The carriage returns of a text, told once.
+fn returns(text: &[u8]) -> Option<String> {
+    let mut lines = text.split(|byte| *byte == b'\n').zip(1..);
+    let has = |(line, _): &(&[u8], usize)| content(line).contains(&b'\r');
+    let (_, first) = lines.find(has)?;
+    let others = match lines.filter(has).count() {
+        0 => String::new(),
+        others => format!(", as {} lines have", others + 1),
+    };
+    Some(format!(
+        "line {first}: has a carriage return{others}; line ends are line feeds alone"
+    ))
+}
+
+/// The call of a line, written behind the bytes of a file; a line without words has none.
+fn packed_line(
+    line: &[u8],
+    place: Place,
+    file: &mut Vec<u8>,
+    files: &mut Files,
+) -> Result<Option<Call>, String> {
+    let words = words_of(line)?;
+    if words.is_empty() {
+        return Ok(None);
+    }
+    let (kind, fields, energies) = call_of(&words, files)?;
+    library::write(kind, &fields, &energies, file).map_err(causes::meaning)?;
+    Ok(Some(Call {
+        place,
+        kind,
+        fields,
+        energies: energies.len(),
+    }))
 }
 
 /// The message file of a text, with its calls; or what is wrong with each bad line.
 pub fn packed(text: &[u8], folder: &Path) -> Result<(Vec<u8>, Vec<Call>), Vec<String>> {
-    let returns = text
-        .split(|byte| *byte == b'\n')
-        .filter(|line| has_return(line))
-        .count();
-    if returns > 0 {
-        let first = text
-            .split(|byte| *byte == b'\n')
-            .position(has_return)
-            .unwrap_or(0)
-            + 1;
-        return Err(vec![format!(
-            "line {first}: has a carriage return, as {returns} lines have; line ends are line feeds alone"
-        )]);
-    }
-    let (mut file, mut calls, mut complaints) = (Vec::new(), Vec::new(), Vec::new());
-    for (at, line) in text.split(|byte| *byte == b'\n').enumerate() {
-        let line_number = at + 1;
+    let (mut file, mut calls, mut files) = (Vec::new(), Vec::new(), Files::new(folder));
+    let mut complaints: Vec<String> = returns(text).into_iter().collect();
+    for (line, number) in text.split(|byte| *byte == b'\n').zip(1..) {
         let place = Place {
-            line: line_number,
+            line: number,
             number: calls.len() + 1,
             offset: file.len(),
         };
-        let packed = words_of(line).and_then(|words| {
-            if words.is_empty() {
-                return Ok(None);
-            }
-            let (kind, fields, energies) = call_of(&words, folder)?;
-            library::write(kind, &fields, &energies, &mut file).map_err(causes::meaning)?;
-            Ok(Some(Call {
-                place,
-                kind,
-                fields,
-                energies: energies.len(),
-            }))
-        });
-        match packed {
+        match packed_line(line, place, &mut file, &mut files) {
             Ok(call) => calls.extend(call),
-            Err(wrong) => complaints.push(format!("line {line_number}: {wrong}")),
+            Err(wrong) => complaints.push(format!("line {number}: {wrong}")),
         }
     }
     if complaints.is_empty() {

@@ -1,65 +1,15 @@
 //! The functions of the static libraries `host` and `test_drive`, each behind a safe function. None of
 //! them asks anything of its caller, so a slice's pointer and length are all that there is to get right.
 
+#[path = "../../command/src/entries.rs"]
+mod entries;
+
+use entries::{
+    emorizugu_figure, emorizugu_figure_refusal, emorizugu_file_offset, emorizugu_file_refusal,
+    emorizugu_read, emorizugu_replay, emorizugu_write,
+};
+
 extern "C" {
-    fn emorizugu_file_refusal(file: *const u8, len: usize) -> u64;
-    fn emorizugu_file_offset(file: *const u8, len: usize) -> u64;
-    fn emorizugu_figure_refusal(
-        book: *const u8,
-        len: usize,
-        quarters: u64,
-        run: u64,
-        group: u64,
-        quarter: u64,
-    ) -> u64;
-    fn emorizugu_figure(
-        book: *const u8,
-        len: usize,
-        quarters: u64,
-        run: u64,
-        group: u64,
-        quarter: u64,
-    ) -> u64;
-    fn emorizugu_replay(
-        file: *const u8,
-        len: usize,
-        values: *mut u64,
-        values_len: usize,
-        book: *mut u64,
-        book_len: usize,
-        log: *mut u64,
-        log_len: usize,
-        series: *mut u64,
-        series_len: usize,
-        answers: *mut u64,
-        answers_len: usize,
-        report: *mut u64,
-        report_len: usize,
-        points: *mut u64,
-        points_len: usize,
-        versions: *mut u64,
-        versions_len: usize,
-    ) -> u64;
-    fn emorizugu_read(
-        file: *const u8,
-        len: usize,
-        start: u64,
-        series: *mut u64,
-        series_len: usize,
-        out: *mut u64,
-        out_len: usize,
-    ) -> u64;
-    fn emorizugu_write(
-        kind: u64,
-        fields: *const u64,
-        fields_len: usize,
-        series: *const u64,
-        series_len: usize,
-        output: *mut u8,
-        output_len: usize,
-        out: *mut u64,
-        out_len: usize,
-    ) -> u64;
     fn drive_script(
         script: *const u64,
         script_len: usize,

@@ -1,0 +1,210 @@
+// Runs the script of a page of `desk page` over a stand-in for a browser's document, clicks, and compares what it draws and tells with the lists:
+// heat maps, a group's curve on a click, the timeline; a sorted column keeps ties in the list's order and each row whole.
+//
+//     node page.js PAGE FIGURES POINTS LOG        the lists as csv, figures with --all
+"use strict";
+const assert = require("assert");
+const fs = require("fs");
+
+const page = fs.readFileSync(process.argv[2], "utf8");
+const [figures, points, log] = process.argv.slice(3).map((name) => {
+  const [head, ...lines] = fs.readFileSync(name, "utf8").trimEnd().split("\n").map((line) => line.split(","));
+  return lines.map((line) => { const row = {}; head.forEach((column, at) => row[column] = line[at]); return row; });
+});
+
+// ---- the stand-in
+
+const plain = (html) => html.replace(/<[^>]*>/g, "").replace(/&lt;/g, "<").replace(/&gt;/g, ">").replace(/&quot;/g, '"').replace(/&amp;/g, "&");
+const dataOf = (tag) => Object.fromEntries([...tag.matchAll(/data-(\w+)="([^"]*)"/g)].map((found) => [found[1], found[2]]));
+const cellsOf = (html, name) => [...html.matchAll(new RegExp(`<${name}( [^>]*)?>(.*?)</${name}>`, "g"))].map((found) => ({ dataset: dataOf(found[1] || ""), textContent: plain(found[2]) }));
+
+class Head {
+  constructor(cell) { this.textContent = cell.textContent; this.attributes = {}; }
+  getAttribute(name) { return name in this.attributes ? this.attributes[name] : null; }
+  setAttribute(name, value) { this.attributes[name] = value; }
+  removeAttribute(name) { delete this.attributes[name]; }
+}
+
+function rowOf(tag, html) {
+  const classes = new Set();
+  const toggle = (name, on) => on ? classes.add(name) : classes.delete(name);
+  return { cells: cellsOf(html, "td"), dataset: dataOf(tag), classes, classList: { toggle } };
+}
+
+function tableOf(html) {
+  const [, head, body] = html.match(/<thead><tr>(.*?)<\/tr><\/thead><tbody>(.*?)<\/tbody>/s);
+  const rows = [...body.matchAll(/<tr( [^>]*)?>(.*?)<\/tr>/gs)].map((found) => rowOf(found[1] || "", found[2]));
+  // Rows that are put behind all others leave their old place.
+  const append = (...moved) => { const left = rows.filter((row) => !moved.includes(row)); rows.splice(0, rows.length, ...left, ...moved); };
+  return { tBodies: [{ rows, append }], tHead: { rows: [{ cells: cellsOf(head, "th").map((cell) => new Head(cell)) }] } };
+}
+
+// What is drawn on a canvas: each rectangle and each corner of a line with its colour, a colour being its name in the page's style.
+class Canvas {
+  constructor(width) { this.clientWidth = width; this.style = {}; this.clear(); }
+  clear() { this.rectangles = []; this.corners = []; }
+  scrollIntoView() {}
+  getContext() {
+    const canvas = this;
+    const still = () => {};
+    return {
+      globalAlpha: 1, fillStyle: "", strokeStyle: "",
+      setTransform: still, fillText: still, setLineDash: still, beginPath: still, stroke: still,
+      clearRect() { canvas.clear(); },
+      measureText: (text) => ({ width: 6 * text.length }),
+      fillRect(x, y) { canvas.rectangles.push({ x, y, colour: this.fillStyle, strength: this.globalAlpha }); },
+      lineTo(x, y) { canvas.corners.push({ x, y, colour: this.strokeStyle }); },
+    };
+  }
+}
+
+const width = 640;
+const tables = [...page.matchAll(/<table.*?<\/table>/gs)].map((found) => tableOf(found[0]));
+const elements = { data: { textContent: page.match(/id="data">(.*?)<\/script>/s)[1] }, which: {}, told: {} };
+for (const name of ["heat1", "heat2", "curve", "time"]) elements[name] = new Canvas(width);
+const groupRows = () => tables.flatMap((table) => table.tBodies[0].rows).filter((row) => row.dataset.group !== undefined);
+const nobody = { addEventListener() {} };
+const document = {
+  documentElement: {},
+  getElementById: (name) => elements[name],
+  querySelectorAll: (what) => what === "table" ? tables : what === "tr[data-group]" ? groupRows() : assert.fail(what),
+};
+const window = { devicePixelRatio: 1, matchMedia: () => nobody, ...nobody };
+const getComputedStyle = () => ({ getPropertyValue: (name) => name });
+const script = page.match(/<script>(.*?)<\/script>/s)[1];
+new Function("document", "window", "getComputedStyle", script)(document, window, getComputedStyle);
+
+// ---- figures: by run, group and quarter hour
+
+const wanted = [{}, {}];
+for (const { run, quarter, group, figure } of figures) (wanted[run - 1][group] ||= [])[quarter - 1] = Number(figure);
+const groups = Object.keys(wanted[0]).filter((group) => wanted.some((run) => run[group].some((figure) => figure !== 0)));
+const Q = figures.length / 128;
+
+// ---- heat maps
+
+function heat(run) {
+  const rectangles = elements["heat" + (run + 1)].rectangles.filter(({ colour }) => colour === "--more" || colour === "--less");
+  const tops = [...new Set(rectangles.map(({ y }) => y))].sort((a, b) => a - b);
+  const left = 26, cells = Math.min(Q, width - left), size = (width - left) / cells;
+  const high = groups.length > 40 ? 8 : groups.length > 12 ? 11 : 18;
+  groups.forEach((group, at) => {
+    const drawn = new Map(rectangles.filter(({ y }) => y === at * high).map((one) => [Math.round((one.x - left) / size), one]));
+    const row = wanted[run][group], most = Math.max(...row.map(Math.abs));
+    const strengths = [];
+    for (let cell = 0; cell < cells; cell++) {
+      const part = row.slice(Math.floor(cell * Q / cells), Math.floor((cell + 1) * Q / cells));
+      const figure = part.reduce((best, one) => Math.abs(one) > Math.abs(best) ? one : best, 0);
+      const one = drawn.get(cell);
+      assert.strictEqual(one === undefined, figure === 0, `heat map, run ${run + 1}, group ${group}, cell ${cell}`);
+      if (one === undefined) continue;
+      assert.strictEqual(one.colour, figure > 0 ? "--more" : "--less");
+      assert(one.strength > 0 && one.strength <= 1);
+      strengths.push([Math.abs(figure), one.strength]);
+      drawn.delete(cell);
+    }
+    assert.strictEqual(drawn.size, 0);
+    // The stronger the larger; the largest is full where they differ.
+    strengths.sort((a, b) => a[0] - b[0]);
+    for (let i = 1; i < strengths.length; i++) assert.strictEqual(Math.sign(strengths[i][1] - strengths[i - 1][1]), Math.sign(strengths[i][0] - strengths[i - 1][0]));
+    if (strengths.length > 1 && strengths[0][0] < most) assert(Math.abs(strengths[strengths.length - 1][1] - 1) < 1e-9);
+  });
+  assert(tops.every((y) => y % high === 0 && y / high < groups.length));
+  return high;
+}
+
+// ---- a group's curve
+
+const digits = (text) => text.replace(/\u202f/g, "");
+
+function curve(group) {
+  assert.strictEqual(elements.which.textContent, "group " + group);
+  const marked = groupRows().filter((row) => row.classes.has("picked")).map((row) => row.dataset.group);
+  assert.deepStrictEqual(marked, [String(group)]);
+  const corners = elements.curve.corners;
+  assert.strictEqual(corners.length, 4 * Q);
+  const size = (corners[2 * Q - 1].x - corners[0].x) / Q;
+  const all = [...wanted[0][group], ...wanted[1][group]];
+  const low = Math.min(0, ...all), high = Math.max(0, ...all);
+  const zero = heightOf(corners, all, low, high);
+  for (let q = 0; q < Q; q++) {
+    for (const run of [0, 1]) {
+      const [begin, end] = corners.slice(2 * (run * Q + q), 2 * (run * Q + q) + 2);
+      assert.strictEqual(begin.colour, run ? "--second" : "--more");
+      assert(Math.abs(begin.y - zero(all[run * Q + q])) < 1e-6 && begin.y === end.y, `curve of group ${group}, quarter hour ${q + 1}`);
+      assert(Math.abs(end.x - begin.x - size) < 1e-6);
+    }
+    elements.curve.onmousemove({ offsetX: corners[0].x + (q + 0.5) * size });
+    assert.strictEqual(digits(elements.told.textContent), ` · quarter hour ${q + 1}: ${wanted[0][group][q]} and ${wanted[1][group][q]} Wh`);
+  }
+  elements.curve.onmousemove({ offsetX: 0 });
+  assert.strictEqual(elements.told.textContent, "");
+}
+
+// The height of a figure, by two that are drawn: heights are as far apart as figures are, and larger is higher.
+function heightOf(corners, all, low, high) {
+  const a = all.indexOf(Math.min(...all)), b = all.indexOf(Math.max(...all));
+  const slope = all[a] === all[b] ? 0 : (corners[2 * b].y - corners[2 * a].y) / (all[b] - all[a]);
+  assert(all[a] === all[b] || slope < 0);
+  assert(high > low);
+  return (figure) => corners[2 * a].y + slope * (figure - all[a]);
+}
+
+// ---- the timeline
+
+function timeline() {
+  const dots = elements.time.rectangles.filter(({ colour }) => colour === "--more" || colour === "--second");
+  assert.strictEqual(dots.length, log.length);
+  log.forEach((row, at) => {
+    assert.strictEqual(dots[at].colour, row.run === "1" ? "--more" : "--second");
+    log.slice(0, at).forEach((other, before) => {
+      if (other.run === row.run) assert.strictEqual(Math.sign(dots[at].x - dots[before].x), Math.sign(row.day - other.day));
+      assert.strictEqual(Math.sign(dots[at].y - dots[before].y), Math.sign(row.point - other.point));
+    });
+  });
+}
+
+// ---- sorting
+
+const valueOf = (cell) => cell.dataset.n === undefined ? cell.textContent : BigInt(cell.dataset.n);
+const compare = (a, b) => a < b ? -1 : a > b ? 1 : 0;
+
+function sorting(table) {
+  const list = [...table.tBodies[0].rows], heads = table.tHead.rows[0].cells;
+  const told = list.map((row) => row.cells.map((cell) => cell.textContent));
+  heads.forEach((head, column) => [1, -1, 1].forEach((way) => {
+    head.onclick();
+    const order = list.map((row, at) => [valueOf(row.cells[column]), at]).sort((a, b) => way * compare(a[0], b[0]) || a[1] - b[1]).map(([, at]) => at);
+    assert(table.tBodies[0].rows.length === list.length && order.every((at, place) => table.tBodies[0].rows[place] === list[at]), `sorted by ${head.textContent}`);
+    const marks = heads.map((other) => other.getAttribute("aria-sort"));
+    assert.deepStrictEqual(marks, heads.map((other) => other === head ? (way === 1 ? "ascending" : "descending") : null));
+  }));
+  assert.deepStrictEqual(list.map((row) => row.cells.map((cell) => cell.textContent)), told);
+}
+
+// A list's rows, in its order and in any: the mark of what counts stands beside its version.
+function listed(table, list) {
+  const shown = table.tBodies[0].rows.map((row) => row.cells.map((cell) => cell.dataset.n === undefined ? cell.textContent : cell.dataset.n).join());
+  assert.deepStrictEqual([...shown].sort(), list.map((row) => Object.values(row).join()).sort());
+  return shown;
+}
+
+const [, , pointTable, logTable] = tables;
+for (const [table, list] of [[pointTable, points], [logTable, log]]) assert.deepStrictEqual(listed(table, list), list.map((row) => Object.values(row).join()));
+timeline();
+const high = heat(0);
+heat(1);
+if (groups.length > 0) curve(Number(groups[0]));
+const some = groups.filter((_, at) => at % Math.ceil(groups.length / 8) === 0);
+for (const group of some) {
+  groupRows().find((row) => row.dataset.group === group).onclick();
+  curve(Number(group));
+}
+for (const group of some) for (const name of ["heat1", "heat2"]) {
+  elements[name].onclick({ offsetY: (groups.indexOf(group) + 0.5) * high });
+  assert.strictEqual(elements.which.textContent, "group " + group);
+}
+elements.heat1.onclick({ offsetY: groups.length * high + 1 });
+tables.forEach(sorting);
+listed(pointTable, points);
+listed(logTable, log);
