@@ -255,6 +255,9 @@ bad_lines() {
     bad "an energy is outside -4611686018427387904 to 4611686018427387903, what a file can carry: '4611686018427387904'" \
         'submit point=1 version=1 day=2 energies=1,4611686018427387904'
     bad "an energy has its digits in groups: '1.000.000'; write them together" 'submit point=1 version=1 day=2 energies=1.000.000'
+    bad "an energy has its digits in groups: '1'000'; write them together" "submit point=1 version=1 day=2 energies=1'000"
+    bad "a field is written name=number: '000'; write the digits of a number together" 'submit point=1 version=1 day=2 energies=1 000'
+    bad "energies names no file: '@:x'" 'submit point=1 version=1 day=2 energies=@:x'
     bad "an energy has zeros in front: '000'; write a number without them, and its digits together" 'submit point=1 version=1 day=2 energies=100,000'
     bad "an energy in kWh is digits with up to three decimals behind a point: '0.1234'" 'submit point=1 version=1 day=2 unit=kWh energies=0.1234'
     bad "unit is Wh or kWh: 'MWh'" 'submit point=1 version=1 day=2 unit=MWh energies=1'

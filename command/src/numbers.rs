@@ -18,7 +18,8 @@ pub enum Unit {
 pub fn quoted(word: &str) -> String {
     let short: String = word.chars().take(32).collect();
     let end = if short.len() < word.len() { ".." } else { "" };
-    format!("'{}{end}'", short.escape_debug())
+    let plain = short.escape_debug().to_string().replace("\\'", "'");
+    format!("'{plain}{end}'")
 }
 
 /// Whether a word is digits in groups of three with marks between.

@@ -208,6 +208,12 @@ impl Files {
             Some((name, column)) => (name, self.column(name, column, unit)),
             None => (source, self.numbers(source, unit)),
         };
+        if name.is_empty() {
+            return Err(format!(
+                "energies names no file: {}",
+                quoted(&format!("@{source}"))
+            ));
+        }
         series
             .and_then(few)
             .map_err(|wrong| format!("{name}: {wrong}"))

@@ -23,7 +23,16 @@ impl<'a> Given<'a> {
         for word in words {
             let (name, value) = word.split_once('=').unwrap_or(("", ""));
             if name.is_empty() || value.is_empty() {
-                return Err(format!("a field is written name=number: {}", quoted(word)));
+                let digits = word.bytes().all(|byte| byte.is_ascii_digit());
+                let hint = if digits {
+                    "; write the digits of a number together"
+                } else {
+                    ""
+                };
+                return Err(format!(
+                    "a field is written name=number: {}{hint}",
+                    quoted(word)
+                ));
             }
             if fields.iter().any(|(other, _)| *other == name) {
                 return Err(format!("{name} stands twice"));
