@@ -93,6 +93,14 @@ typed_day() {
         grep -qxF 'the first refused: line 18, call 10' "$work/out"
 }
 
+# The 513th version.
+too_many() {
+    { echo 'open quarters=1 first=10 clearing=30 correction=150 others=3' && echo 'activate point=1 kind=1 area=1 partner=0 day=0' &&
+        seq -f 'submit point=1 version=%.0f day=2 energies=1' 513; } >"$work/many.calls"
+    has 'refused: 513 versions' 1 '^line 515, call 515: submit point 1 version 513: refused, 16: 512 versions are held, as many as a desk holds$' \
+        ./desk run "$work/many.calls"
+}
+
 not_open() {
     local file
     file=$(printf 'open quarters=0 first=3 clearing=2 correction=9 others=65\nsettle run=1 day=31\n' | text closed.calls)
@@ -504,6 +512,8 @@ month() {
     holds 'its summary' grep -qx '942 calls, none refused; day 151; runs 1 and 2 settled; 2976 quarter hours' "$work/large"
     ./desk pack "$work/large.calls" -o "$work/large.msg"
     holds 'the same as a message file' sh -c "./desk run '$work/large.msg' | sed 's/large.msg/large.calls/' | cmp - '$work/large'"
+    holds 'the same by a pipe' sh -c "cat '$work/large.msg' | ./desk run - | sed 's/desk log -/desk log large.calls/' | sed 's#desk log .*/#desk log #' >'$work/piped' &&
+        sed 's#desk log .*/#desk log #' '$work/large' | cmp - '$work/piped'"
     ./desk figures "$work/large.msg" --all --csv >"$work/large.csv"
     holds 'all figures' test "$(wc -l <"$work/large.csv")" -eq $((2 * 64 * 2976 + 1))
     start=$(date +%s%N)
@@ -560,6 +570,7 @@ if ./desk --version >"$work/log" 2>&1; then
     pass 'the program is built'
     refusals
     holds 'one typed day' typed_day
+    too_many
     not_open
     sample
     selections

@@ -11,9 +11,10 @@ use crate::library;
 use crate::output::{self, words, Failure};
 use crate::text;
 
-/// A month's calls, packed, and where each of them stands.
+/// A month's calls, packed, and where each of them stands. Its name is as it is shown, its source as it was given.
 pub struct Month {
     pub name: String,
+    pub source: String,
     pub file: Vec<u8>,
     pub calls: Vec<Call>,
 }
@@ -74,6 +75,7 @@ pub fn packed(name: &OsStr, bytes: &[u8]) -> Result<Month, Failure> {
     match text::packed(bytes, &folder(name)) {
         Ok((file, calls)) => Ok(Month {
             name: shown,
+            source: name.to_string_lossy().into_owned(),
             file,
             calls,
         }),
@@ -131,6 +133,7 @@ pub fn month(name: &OsStr) -> Result<Month, Failure> {
     let calls = unpacked(&bytes);
     Ok(Month {
         name: shown.into_owned(),
+        source: name.to_string_lossy().into_owned(),
         file: bytes,
         calls,
     })

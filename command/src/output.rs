@@ -106,7 +106,7 @@ pub fn write(bytes: &[u8]) -> Result<(), Failure> {
 /// Whether standard output is a terminal that shows colours.
 pub fn colours() -> bool {
     io::stdout().is_terminal()
-        && std::env::var_os("NO_COLOR").is_none()
+        && std::env::var_os("NO_COLOR").is_none_or(|word| word.is_empty())
         && std::env::var_os("TERM").is_some_and(|term| term != "dumb")
 }
 

@@ -4,7 +4,7 @@ use std::collections::{BTreeMap, HashMap};
 
 use crate::calls::{counted, Call, ACTIVATE, ASSIGN, DEACTIVATE, NOTICE, OPEN, SETTLE, SUBMIT};
 use crate::causes;
-use crate::library::Reader;
+use crate::library::{Reader, VERSIONS};
 use crate::month::Ran;
 
 /// A refused call.
@@ -133,6 +133,12 @@ impl<'a> Before<'a> {
                     by,
                 )
             }
+            // The command lends room for as many as a desk holds.
+            16 => (
+                format!("{VERSIONS} versions are held, as many as a desk holds"),
+                causes::mend(16),
+                None,
+            ),
             29 => self.run_open(),
             _ => fallback(),
         }

@@ -132,7 +132,7 @@ pub fn changes(log: &[LogRow]) -> Vec<Change> {
 /// The most changes of a selection that the summary names one by one.
 const NAMED: usize = 20;
 
-fn selection(replay: &Replay, name: &str) -> String {
+fn selection(replay: &Replay, source: &str) -> String {
     let changes = changes(&replay.log);
     if changes.is_empty() {
         return String::new();
@@ -143,7 +143,7 @@ fn selection(replay: &Replay, name: &str) -> String {
     }
     if changes.len() > NAMED {
         text.push_str(&format!(
-            "    and {} more: desk log {name}\n",
+            "    and {} more: desk log {source}\n",
             changes.len() - NAMED
         ));
     }
@@ -247,7 +247,7 @@ pub fn run(wanted: &Wanted) -> Result<i32, Failure> {
         ));
     }
     if ran.replay.quarters > 0 {
-        text.push_str(&selection(&ran.replay, &ran.month.name));
+        text.push_str(&selection(&ran.replay, &ran.month.source));
         text.push_str(&groups(&ran.replay, &paint));
     }
     output::write(text.as_bytes())?;
