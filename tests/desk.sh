@@ -528,11 +528,17 @@ month() {
     page_of small examples/month.calls
     holds "the sample month's page" python3 tests/page.py "$work/small.html" "$work/small.csv"
     page_script small examples/month.calls
+    expect "the sample month's deltas on the page" 0 sed -n 's#^<tr><td class="word" data-n="[0-9]*">\([^<]*\)</td><td data-n="\(-*[0-9]*\)">.*#\1: \2#p' "$work/small.html" <<END
+T: 200
+area 1: 18000
+area 2: 50100
+END
     page_of two "$work/two.calls"
     page_script two "$work/two.calls"
     cp examples/example.msg "$work/{{log}}<&.msg"
     page_of odd "$work/{{log}}<&.msg" 2>/dev/null
     page_script odd "$work/{{log}}<&.msg" 2>/dev/null
+    holds 'refused calls on the page' grep -q '^<li>call 4, offset 36: submit point 1 version 7: refused, 14: point 1 has version 7 already (call 3)<br>' "$work/odd.html"
     holds 'a name with marks and tags' grep -q '<h1>Month of .*/{{log}}&lt;&amp;.msg</h1>' "$work/odd.html"
 }
 
