@@ -424,10 +424,23 @@ END
 
 # ---- help
 
+# The example of a command's help, run in a folder of its own.
+example() { # command
+    local words
+    words=$(./desk "$1" --help | sed -n 's/^Example: desk //p')
+    rm -rf "$work/example"
+    mkdir "$work/example"
+    ln -s "$PWD/examples" "$work/example/examples"
+    case $words in "$1 "*) ;; *) return 1 ;; esac
+    # The arguments are words without blanks.
+    # shellcheck disable=SC2086
+    (cd "$work/example" && "$OLDPWD/desk" $words)
+}
+
 help() {
     local command
     for command in run figures log points page pack print causes; do
-        has "help of $command" 0 "^Example: desk $command" ./desk "$command" --help
+        holds "help of $command, and its example" example "$command"
     done
     has 'help' 0 '^Exit status: 0 all calls accepted' ./desk --help
     has 'version' 0 '^desk [0-9.]+, library 2$' ./desk --version

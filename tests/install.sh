@@ -61,6 +61,10 @@ entries() {
     compiled gcc entries -std=gnu99 tests/entries.c -lpthread && "$work/entries" examples/month.msg
 }
 
+times() {
+    compiled gcc times -std=c99 tests/times.c && "$work/times" examples/month.msg && python3 tests/times.py "$prefix/bin/desk" run examples/month.calls
+}
+
 nothing_left() {
     ./install --remove "$prefix" && [ -z "$(find "$prefix" -type f)" ]
 }
@@ -76,5 +80,6 @@ holds 'the hosts in C' in_c
 holds 'the host in C++' in_cpp
 holds 'the host in Python' in_python
 holds 'NULL with length 0, a small stack' entries
+holds 'the measurements of docs/MEASURED.md' times
 holds 'taken away' nothing_left
 finish
