@@ -7,15 +7,14 @@ use checks::decisions::at_work;
 use checks::decisions::outcome;
 use checks::decisions::refuse;
 use checks::limits::series_ok;
+use checks::looks::asking_series;
 use checks::looks::look;
 use checks::points::is_active;
 use checks::rules::or_if;
-use model::Asks;
 use model::Cause;
 use model::Ruling;
 use quantity::Day;
 use quantity::PointNo;
-use quantity::Version;
 use quantity::limits::day_ok;
 use quantity::limits::point_ok;
 use state::Desk;
@@ -24,7 +23,7 @@ use state::changes::put_point;
 ghost use mathlib.Core.Path.{_≡_};
 ghost use Rattle.state.specs.Effect.{changedBy, Fits};
 ghost use Rattle.model.specs.Call.{Lengths, activates, telling};
-ghost use Rattle.model.specs.Causes.{asking};
+ghost use Rattle.model.specs.Causes.{askingSeries};
 ghost use Rattle.model.specs.Step.{refusalBy};
 ghost use Rattle.checks.specs.Look.{Looked};
 ghost use Rattle.checks.specs.Stepped.{Answered};
@@ -38,7 +37,7 @@ fn activate_ruling(
     partner: u64,
     day: Day,
 ) -> Ruling
-    requires { ⌜ Looked d (asking (point .0) 0 kind area partner) l ⌝ }
+    requires { ⌜ Looked d (askingSeries (point .0) kind area partner) l ⌝ }
     ensures { λ r. ⌜ ((n : Lengths) → r ≡ refusalBy d (telling n (activates (point .0) kind area partner (day .0)))) ⌝ }
 {
     let frame = d.frame;
@@ -63,7 +62,7 @@ pub fn decide_activate(
     partner: u64,
     day: Day,
 ) -> Decided
-    requires { ⌜ Looked d (asking (point .0) 0 kind area partner) l ⌝ }
+    requires { ⌜ Looked d (askingSeries (point .0) kind area partner) l ⌝ }
     ensures { λ r. ⌜ Fits d (r .effect) × Answered d (activates (point .0) kind area partner (day .0)) (r .answer) (changedBy d (r .effect)) ⌝ }
 {
     let frame = d.frame;
@@ -80,14 +79,7 @@ pub fn decide_activate(
 pub fn activate(d: Desk, point: PointNo, kind: u64, area: u64, partner: u64, day: Day) -> Outcome
     ensures { λ r. ⌜ Answered d (activates (point .0) kind area partner (day .0)) (r .answer) (r .desk) ⌝ }
 {
-    let asks = Asks {
-        point,
-        version: Version(0),
-        kind,
-        area,
-        partner,
-    };
-    let l = look(d, asks);
+    let l = look(d, asking_series(point, kind, area, partner));
     let r = decide_activate(d, l, point, kind, area, partner, day);
     outcome(d, r)
 }

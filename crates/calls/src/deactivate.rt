@@ -6,7 +6,7 @@ use checks::decisions::accept;
 use checks::decisions::at_work;
 use checks::decisions::outcome;
 use checks::decisions::refuse;
-use checks::looks::asking;
+use checks::looks::asking_versions;
 use checks::looks::look;
 use checks::points::is_active;
 use checks::rules::or_if;
@@ -25,13 +25,13 @@ use state::selections::is_selected;
 ghost use mathlib.Core.Path.{_≡_};
 ghost use Rattle.state.specs.Effect.{changedBy, Fits};
 ghost use Rattle.model.specs.Call.{Lengths, deactivates, telling};
-ghost use Rattle.model.specs.Causes.{asking as askingFor};
+ghost use Rattle.model.specs.Causes.{askingVersions};
 ghost use Rattle.model.specs.Step.{refusalBy};
 ghost use Rattle.checks.specs.Look.{Looked};
 ghost use Rattle.checks.specs.Stepped.{Answered};
 
 fn deactivate_ruling(d: Desk, l: Look, point: PointNo, day: Day) -> Ruling
-    requires { ⌜ Looked d (askingFor (point .0) 0 0 0 0) l ⌝ }
+    requires { ⌜ Looked d (askingVersions (point .0) 0) l ⌝ }
     ensures { λ r. ⌜ ((n : Lengths) → r ≡ refusalBy d (telling n (deactivates (point .0) (day .0)))) ⌝ }
 {
     let frame = d.frame;
@@ -49,7 +49,7 @@ fn deactivate_ruling(d: Desk, l: Look, point: PointNo, day: Day) -> Ruling
 
 // What is decided, by one look at the desk.
 pub fn decide_deactivate(d: Desk, l: Look, point: PointNo, day: Day) -> Decided
-    requires { ⌜ Looked d (askingFor (point .0) 0 0 0 0) l ⌝ }
+    requires { ⌜ Looked d (askingVersions (point .0) 0) l ⌝ }
     ensures { λ r. ⌜ Fits d (r .effect) × Answered d (deactivates (point .0) (day .0)) (r .answer) (changedBy d (r .effect)) ⌝ }
 {
     let frame = d.frame;
@@ -68,7 +68,7 @@ pub fn decide_deactivate(d: Desk, l: Look, point: PointNo, day: Day) -> Decided
 pub fn deactivate(d: Desk, point: PointNo, day: Day) -> Outcome
     ensures { λ r. ⌜ Answered d (deactivates (point .0) (day .0)) (r .answer) (r .desk) ⌝ }
 {
-    let l = look(d, asking(point, Version(0)));
+    let l = look(d, asking_versions(point, Version(0)));
     let r = decide_deactivate(d, l, point, day);
     outcome(d, r)
 }

@@ -3,7 +3,7 @@ use checks::Look;
 use checks::Outcome;
 use checks::decisions::at_work;
 use checks::looks::absent;
-use checks::looks::asking;
+use checks::looks::asking_versions;
 use checks::looks::look;
 use checks::points::is_active;
 use checks::rules::or_if;
@@ -18,13 +18,13 @@ use state::Desk;
 use state::Held;
 ghost use mathlib.Core.Path.{_≡_};
 ghost use Rattle.model.specs.Call.{Lengths, asks, telling};
-ghost use Rattle.model.specs.Causes.{asking as askingFor};
+ghost use Rattle.model.specs.Causes.{askingVersions};
 ghost use Rattle.model.specs.Step.{statusAnswer, refusalBy};
 ghost use Rattle.checks.specs.Look.{Looked};
 ghost use Rattle.checks.specs.Stepped.{Answered};
 
 fn status_ruling(d: Desk, l: Look, point: PointNo, version: Version) -> Ruling
-    requires { ⌜ Looked d (askingFor (point .0) (version .0) 0 0 0) l ⌝ }
+    requires { ⌜ Looked d (askingVersions (point .0) (version .0)) l ⌝ }
     ensures { λ r. ⌜ ((n : Lengths) → r ≡ refusalBy d (telling n (asks (point .0) (version .0)))) ⌝ }
 {
     let frame = d.frame;
@@ -57,7 +57,7 @@ pub fn status_answer(held: Held) -> Answer
 pub fn status(d: Desk, point: PointNo, version: Version) -> Outcome
     ensures { λ r. ⌜ Answered d (asks (point .0) (version .0)) (r .answer) (r .desk) ⌝ }
 {
-    let l = look(d, asking(point, version));
+    let l = look(d, asking_versions(point, version));
     let survey = l.survey;
     let held = survey.held;
     let v = status_ruling(d, l, point, version);

@@ -1,39 +1,44 @@
--- Laws of the walk over the versions: what it finds in no record, with one record more, and in another point's. Assumes nothing.
-use Prim.Native.Nat.{ℕ, _+_, _<_}
-use mathlib.Core.Path.{_≡_, refl}
-use mathlib.Core.Bool.{Bool, true, false, _&&_}
+-- Laws of the walk over the versions: what it finds in no record, with one record more, and in another point's; and of a point's place. Assumes
+-- nothing.
+use Prim.Native.Nat.{ℕ, zero, suc, _+_, _-_, _≤_, _<_}
+use mathlib.Core.Path.{_≡_, refl, sym}
+use mathlib.Core.Bool.{Bool, true, false, cond}
 use mathlib.Core.List.{List}
+use native.Mathlib.Omega.{arith}
+use borrow.Author.Tests.{ltb-true, ltb-false, le-leb, leb-false}
+use lib.Dec.{ltb}
 use lib.ListN.{length, take, getD}
-use Rattle.quantity.proofs.Lists.{all-none, all-more}
-use Rattle.state.proofs.Lists.{walk-none, walk-more}
+use Rattle.quantity.specs.Limits.{pointOk}
+use Rattle.quantity.proofs.Tests.{by-test, within-low, within-high}
+use Rattle.state.proofs.Lists.{walk-none, walk-more, take-past}
+use Rattle.state.proofs.PointTable.{point-at, point-past}
+use Rattle.state.specs.Point.{freePoint, pointAt}
 use Rattle.state.specs.Selection.{raiseIf, best, isCounted}
-use Rattle.checks.specs.Survey.{fitted, surveyStep, Surveyed}
-use Rattle.state.specs.Valid.{versionRecordOk}
+use Rattle.checks.specs.Survey.{placeOf, recordAt, stateIn, nothingFound, surveyStep, Surveyed}
 use Rattle.state.specs.Version.{emptyVersion, isAt, orHeld, held}
 use Rattle.state.specs.declared.Held.{Held}
 use Rattle.state.specs.declared.Held.the-variants.{Absent, Has}
+use Rattle.state.specs.declared.PointRecord.{PointRecord}
+use Rattle.state.specs.declared.PointState.the-variants.{Free}
 use Rattle.state.specs.declared.Selection.the-variants.{None}
 use Rattle.checks.specs.declared.Survey.{Survey}
 use Rattle.state.specs.declared.VersionRecord.{VersionRecord}
 
-module _ (rows p x : ℕ) (vs : List VersionRecord) where
-  pub found-none : Surveyed rows p x (take 0 vs) (record { fit = true; held = Absent; highest = None; first = None; second = None })
+module _ (p x : ℕ) (vs : List VersionRecord) where
+  pub found-none : Surveyed p x (take 0 vs) nothingFound
   unfolding best held
   found-none =
       record {
-        fit = all-none (versionRecordOk rows) vs;
         held = walk-none (orHeld p x) Absent vs;
         highest = walk-none (raiseIf (isAt p)) None vs;
         first = walk-none (raiseIf (isCounted 1 p)) None vs;
         second = walk-none (raiseIf (isCounted 2 p)) None vs;
       }
 
-  pub found-more : (b : Bool) (s : Survey) (i : ℕ) → i < length vs → Surveyed rows p x (take i vs) (fitted b s)
-      → Surveyed rows p x (take (i + 1) vs) (fitted (b && versionRecordOk rows (getD vs i emptyVersion)) (surveyStep p x s i (getD vs i emptyVersion)))
+  pub found-more : (s : Survey) (i : ℕ) → i < length vs → Surveyed p x (take i vs) s → Surveyed p x (take (i + 1) vs) (surveyStep p x s i (getD vs i emptyVersion))
   unfolding best held
-  found-more b s i h f =
+  found-more s i h f =
       record {
-        fit = rw (f .fit) (all-more (versionRecordOk rows) vs i emptyVersion h);
         held = rw (f .held) (walk-more (orHeld p x) Absent vs i emptyVersion h);
         highest = rw (f .highest) (walk-more (raiseIf (isAt p)) None vs i emptyVersion h);
         first = rw (f .first) (walk-more (raiseIf (isCounted 1 p)) None vs i emptyVersion h);
@@ -47,3 +52,28 @@ other-held p x i v (Has j w) e = refl
 
 pub other-point : (p x : ℕ) (s : Survey) (i : ℕ) (v : VersionRecord) → isAt p v ≡ false → s ≡ surveyStep p x s i v
 other-point p x s i v e = let h = other-held p x i v (s .held) e in rw (← h, e)
+
+-- of a table, as many records as it has or as many as are counted are the same records
+pub records-taken : (vs : List VersionRecord) (n count : ℕ) → length vs ≡ 512 → n ≡ cond (ltb count 512) count 512 → (n ≤ 512) × (take n vs ≡ take count vs)
+records-taken vs n count l e = go (ltb count 512) refl e
+  where
+    go : (b : Bool) → ltb count 512 ≡ b → n ≡ cond b count 512 → (n ≤ 512) × (take n vs ≡ take count vs)
+    go true t e = let h = ltb-true count 512 t in (omega arith, rw e)
+    go false t e = let h = ltb-false count 512 t in (omega arith, take-past vs n count (omega arith) (omega arith))
+
+-- a point's state by the record that stands at its place
+pub place-in : (p : ℕ) → placeOf p < 256
+place-in p = by-test (λ (n : ℕ). n < 256) (pointOk p) (p - 1) 0 (λ e. omega (arith, within-low 1 256 p e, within-high 1 256 p e)) (λ _. omega arith)
+
+pub state-is : (ps : List PointRecord) (p : ℕ) → length ps ≡ 256 → stateIn (recordAt ps p) p ≡ pointAt ps p
+state-is ps p l = go (pointOk p) refl
+  where
+    outside : (n : ℕ) → pointOk n ≡ false → Free ≡ pointAt ps n
+    outside zero e = refl
+    outside (suc i) e =
+        let far = leb-false (suc i) 256 (rw (le-leb 1 (suc i) (omega arith)) at e) in
+        sym (point-past ps (suc i) (omega arith))
+
+    go : (b : Bool) → pointOk p ≡ b → cond b (getD ps (cond b (p - 1) 0) freePoint .state) Free ≡ pointAt ps p
+    go true e = sym (point-at ps p (omega (arith, within-low 1 256 p e)))
+    go false e = outside p e

@@ -1,9 +1,10 @@
 -- What one look at the desk tells, each part by its own definition.
 use mathlib.Core.Path.{_≡_}
+use mathlib.Core.Bool.{true}
 use lib.ListN.{length}
 use Rattle.quantity.specs.Limits.{versions}
 use Rattle.quantity.specs.Lists.{any}
-use Rattle.state.specs.Desk.{rowsIn, versionsIn}
+use Rattle.state.specs.Desk.{versionsIn}
 use Rattle.state.specs.Point.{pointAt, hasSeries}
 use Rattle.state.specs.Valid.{validDesk}
 use Rattle.state.specs.declared.Desk.{Desk}
@@ -11,10 +12,10 @@ use Rattle.model.specs.declared.Asks.{Asks}
 use Rattle.checks.specs.Survey.{Surveyed}
 use Rattle.checks.specs.declared.Look.{Look}
 
--- by what is asked: a point, a version, a series
+-- by what is asked: a point; a series and the versions where the call asks for them
 pub record Looked (d : Desk) (a : Asks) (l : Look) : Type 0 where
   pub valid : l .valid ≡ validDesk d
   pub here : l .here ≡ pointAt (d .points) (a .point .0)
-  pub taken : l .taken ≡ any (hasSeries (a .kind) (a .area) (a .partner)) (d .points)
+  pub taken : a .series ≡ true → l .taken ≡ any (hasSeries (a .kind) (a .area) (a .partner)) (d .points)
   pub table : length (d .versions) ≡ versions
-  pub survey : Surveyed (rowsIn (d .frame .opening)) (a .point .0) (a .version .0) (versionsIn d) (l .survey)
+  pub survey : a .versions ≡ true → Surveyed (a .point .0) (a .version .0) (versionsIn d) (l .survey)

@@ -15,14 +15,18 @@ use state::Held;
 use state::PointState;
 use state::Selection;
 
-// What one walk over the versions finds: whether each record held is within its limits, the version asked for, and of the point asked for
-// the highest version, run 1's selection and run 2's own.
+// What one walk over the versions finds: the version asked for, and of the point asked for the highest version, run 1's selection and run 2's own.
 pub struct Survey {
-    pub fit: bool,
     pub held: Held,
     pub highest: Selection,
     pub first: Selection,
     pub second: Selection,
+}
+
+// The same, and whether each record held is within its limits.
+pub struct Tested {
+    pub fit: bool,
+    pub survey: Survey,
 }
 
 // What one walk over the points finds: whether each record is within its limits, and whether an active point has the kind, area and
@@ -32,8 +36,8 @@ pub struct Scan {
     pub taken: bool,
 }
 
-// What one walk over the points and one over the versions tell: whether the desk is within its limits (cause 1), the state of the point asked
-// for, whether an active point has the series asked for, and what the versions have of the point and version asked for.
+// What a look at the desk tells: whether it is within its limits (cause 1), the state of the point asked for, and where a call asks for it
+// whether an active point has the series, and what the versions have of the point and version.
 pub struct Look {
     pub valid: bool,
     pub here: PointState,

@@ -1,29 +1,44 @@
-// Points: a point's state, the table of series, and the one walk over the points.
+// Points: a point's state, its series, and the walk over the points, with the limits of each record or without.
 use crate::Scan;
 use crate::limits::point_record_ok;
 use quantity::Day;
 use quantity::PointNo;
 use quantity::limits::POINTS;
+use quantity::limits::point_ok;
 use state::PointRecord;
 use state::PointState;
 ghost use mathlib.Core.Path.{_≡_};
-ghost use Rattle.state.specs.Point.{pointAt, isActive, sinceOf, isSeries};
-ghost use Rattle.checks.specs.Survey.{Scanned};
+ghost use Rattle.quantity.specs.Lists.{any};
+ghost use Rattle.state.specs.Point.{pointAt, isActive, sinceOf, isSeries, hasSeries};
+ghost use Rattle.checks.specs.Survey.{placeOf, stateIn, Scanned};
+
+// Where the record of a point stands. A number that is no point's has none; the first record is read for it, and not looked at.
+pub fn place_of(point: PointNo) -> usize
+    ensures { λ r. ⌜ r ≡ placeOf (point .0) ⌝ }
+{
+    if !point_ok(point) {
+        return 0;
+    }
+    (point.0 - 1) as usize
+}
+
+// A point's state, by the record that stands there.
+pub fn state_in(p: PointRecord, point: PointNo) -> PointState
+    ensures { λ r. ⌜ r ≡ stateIn p (point .0) ⌝ }
+{
+    if !point_ok(point) {
+        return PointState::Free;
+    }
+    let state = p.state;
+    state
+}
 
 pub fn state_at(points: [PointRecord; POINTS as usize], point: PointNo) -> PointState
     ensures { λ r. ⌜ r ≡ pointAt points (point .0) ⌝ }
 {
-    let number = point.0;
-    if number == 0 {
-        return PointState::Free;
-    }
-    if POINTS < number {
-        return PointState::Free;
-    }
-    let i = (number - 1) as usize;
+    let i = place_of(point);
     let p = points[i];
-    let state = p.state;
-    state
+    state_in(p, point)
 }
 
 pub fn is_active(s: PointState) -> bool
@@ -66,6 +81,24 @@ pub fn is_series(s: PointState, kind: u64, area: u64, partner: u64) -> bool
             partner: b,
         } => { (k.0 as u64 == kind) & ((a.0 as u64 == area) & (b.0 as u64 == partner)) }
     }
+}
+
+// Whether an active point has the kind, area and partner. No limit is tested.
+pub fn has_series(
+    points: [PointRecord; POINTS as usize],
+    kind: u64,
+    area: u64,
+    partner: u64,
+) -> bool
+    ensures { λ r. ⌜ r ≡ any (hasSeries kind area partner) points ⌝ }
+{
+    let mut taken = false;
+    for i in 0..POINTS as usize {
+        let p = points[i];
+        let state = p.state;
+        taken = taken | is_series(state, kind, area, partner);
+    }
+    taken
 }
 
 pub fn scan(points: [PointRecord; POINTS as usize], kind: u64, area: u64, partner: u64) -> Scan

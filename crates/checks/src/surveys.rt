@@ -1,5 +1,6 @@
-// The one walk over the versions: all that a call asks of them.
+// The walk over the versions: all that a call asks of them, with the limits of each record or without.
 use crate::Survey;
+use crate::Tested;
 use crate::limits::version_record_ok;
 use quantity::PointNo;
 use quantity::Version;
@@ -13,8 +14,11 @@ use state::selections::is_version;
 use state::selections::raised_if;
 use state::selections::row_at;
 ghost use mathlib.Core.Path.{_≡_};
+ghost use mathlib.Core.Bool.{cond};
+ghost use lib.Dec.{ltb};
 ghost use lib.ListN.{take};
-ghost use Rattle.checks.specs.Survey.{surveyStep, Surveyed};
+ghost use Rattle.quantity.specs.Limits.{versions as mostVersions};
+ghost use Rattle.checks.specs.Survey.{nothingFound, surveyStep, Surveyed, TestedIn};
 ghost use Rattle.state.specs.Version.{orHeld};
 
 pub fn or_held(held: Held, at: u64, v: VersionRecord, point: PointNo, version: Version) -> Held
@@ -32,7 +36,19 @@ pub fn or_held(held: Held, at: u64, v: VersionRecord, point: PointNo, version: V
     }
 }
 
-// One record of the point more. Whether it fits is asked apart.
+// In no record.
+pub fn nothing_found() -> Survey
+    ensures { λ r. ⌜ r ≡ nothingFound ⌝ }
+{
+    Survey {
+        held: Held::Absent,
+        highest: Selection::None,
+        first: Selection::None,
+        second: Selection::None,
+    }
+}
+
+// One record of the point more.
 fn surveyed(s: Survey, at: u64, v: VersionRecord, point: PointNo, version: Version) -> Survey
     ensures { λ r. ⌜ r ≡ surveyStep (point .0) (version .0) s at v ⌝ }
 {
@@ -42,7 +58,6 @@ fn surveyed(s: Survey, at: u64, v: VersionRecord, point: PointNo, version: Versi
     let second = s.second;
     let row = row_at(at, v);
     Survey {
-        fit: s.fit,
         held: or_held(held, at, v, point, version),
         highest: raised_if(is_at(v, point), highest, row),
         first: raised_if(is_counted(v, 1, point), first, row),
@@ -50,29 +65,50 @@ fn surveyed(s: Survey, at: u64, v: VersionRecord, point: PointNo, version: Versi
     }
 }
 
-// A record of another point is only asked whether it fits. A count past the table's end means the whole table.
+// A count past the table's end means the whole table.
+fn records_in(count: u64) -> usize
+    ensures { λ r. ⌜ r ≡ cond (ltb count mostVersions) count mostVersions ⌝ }
+{
+    if count < VERSIONS {
+        count as usize
+    } else {
+        VERSIONS as usize
+    }
+}
+
+// No limit is tested.
 pub fn survey(
+    versions: [VersionRecord; VERSIONS as usize],
+    count: u64,
+    point: PointNo,
+    version: Version,
+) -> Survey
+    ensures { λ r. ⌜ Surveyed (point .0) (version .0) (take count versions) r ⌝ }
+{
+    let mut s = nothing_found();
+    let n = records_in(count);
+    for i in 0..n {
+        let v = versions[i];
+        if is_at(v, point) {
+            s = surveyed(s, i as u64, v, point, version);
+        }
+    }
+    s
+}
+
+// A record of another point is only asked whether it fits.
+pub fn survey_tested(
     versions: [VersionRecord; VERSIONS as usize],
     count: u64,
     rows: u64,
     point: PointNo,
     version: Version,
-) -> Survey
-    ensures { λ r. ⌜ Surveyed rows (point .0) (version .0) (take count versions) r ⌝ }
+) -> Tested
+    ensures { λ r. ⌜ TestedIn rows (point .0) (version .0) (take count versions) r ⌝ }
 {
     let mut fit = true;
-    let mut s = Survey {
-        fit: true,
-        held: Held::Absent,
-        highest: Selection::None,
-        first: Selection::None,
-        second: Selection::None,
-    };
-    let n = if count < VERSIONS {
-        count as usize
-    } else {
-        VERSIONS as usize
-    };
+    let mut s = nothing_found();
+    let n = records_in(count);
     for i in 0..n {
         let v = versions[i];
         fit = fit & version_record_ok(v, rows);
@@ -80,6 +116,5 @@ pub fn survey(
             s = surveyed(s, i as u64, v, point, version);
         }
     }
-    s.fit = fit;
-    s
+    Tested { fit, survey: s }
 }

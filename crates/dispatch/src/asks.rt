@@ -1,6 +1,8 @@
 // What a call asks before it is decided: of the desk's tables, and of the book.
-use checks::looks::asking;
 use checks::looks::asking_nothing;
+use checks::looks::asking_series;
+use checks::looks::asking_versions;
+use checks::points::place_of;
 use message::DeskCall;
 use model::Asks;
 use quantity::Version;
@@ -9,9 +11,10 @@ ghost use mathlib.Core.List.{List};
 ghost use Prim.Native.Nat.{ℕ};
 ghost use lib.IntN.{ℤ};
 ghost use Rattle.model.specs.Causes.{terms};
+ghost use Rattle.checks.specs.Survey.{placeOf};
 ghost use Rattle.dispatch.specs.Asked.{asked};
 
-// The point and version that it names; an activation also asks for the series that may stand only once.
+// The point and version that it names, or the series that may stand only once.
 pub fn asks_of(call: DeskCall) -> Asks
     ensures { λ r. ⌜ ((groups : List ℕ) (energies : List ℤ) → r ≡ terms (asked call groups energies) .asks) ⌝ }
 {
@@ -28,25 +31,19 @@ pub fn asks_of(call: DeskCall) -> Asks
             area,
             partner,
             day: _,
-        } => Asks {
-            point,
-            version: Version(0),
-            kind,
-            area,
-            partner,
-        },
-        DeskCall::Deactivate { point, day: _ } => asking(point, Version(0)),
+        } => asking_series(point, kind, area, partner),
+        DeskCall::Deactivate { point, day: _ } => asking_versions(point, Version(0)),
         DeskCall::Submit {
             point,
             version,
             day: _,
-        } => asking(point, version),
+        } => asking_versions(point, version),
         DeskCall::Notice {
             point,
             version,
             verdict: _,
             day: _,
-        } => asking(point, version),
+        } => asking_versions(point, version),
         DeskCall::Assign {
             area: _,
             group: _,
@@ -54,6 +51,15 @@ pub fn asks_of(call: DeskCall) -> Asks
         } => asking_nothing(),
         DeskCall::Settle { run: _, day: _ } => asking_nothing(),
     }
+}
+
+// Where the record of the point that it names stands.
+pub fn place_in(call: DeskCall) -> usize
+    ensures { λ r. ⌜ ((groups : List ℕ) (energies : List ℤ) → r ≡ placeOf (terms (asked call groups energies) .asks .point .0)) ⌝ }
+{
+    let asks = asks_of(call);
+    let point = asks.point;
+    place_of(point)
 }
 
 // Q of the book that it is lent: an opening's own, else the desk's.

@@ -72,7 +72,7 @@ fn point_row(
     requires { ⌜ i < points ⌝ }
     ensures { λ r. ⌜ r ≡ pointPlaces state (versionOf (selected 1 (suc i) (take count versions))) (versionOf (selected 2 (suc i) (take count versions))) ⌝ }
 {
-    let s = survey(versions, count, 0, PointNo(i + 1), Version(0));
+    let s = survey(versions, count, PointNo(i + 1), Version(0));
     let first = s.first;
     let second = s.second;
     point_places(state, version_of(first), version_of(or_else(second, first)))

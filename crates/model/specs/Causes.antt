@@ -103,13 +103,20 @@ logFull n log (Row r) = ltb log (4 * (n + 1))
 abbrev pub deadline : Opening → (run : ℕ) → ℕ
 deadline o run = cond (eqb run 1) (o .clearing .0) (o .correction .0)
 
--- what a call asks of the desk: a point, a version, a series
-abbrev pub asking : (point version kind area partner : ℕ) → Asks
-asking p x k a b = record { point = record { 0 = p }; version = record { 0 = x }; kind = k; area = a; partner = b }
-
--- nothing
+-- what a call asks of the desk: nothing,
 abbrev pub askingNothing : Asks
-askingNothing = asking 0 0 0 0 0
+askingNothing =
+    record { point = record { 0 = 0 }; series = false; kind = 0; area = 0; partner = 0; versions = false; version = record { 0 = 0 } }
+
+-- a point and of all points a series,
+abbrev pub askingSeries : (point kind area partner : ℕ) → Asks
+askingSeries p k a b =
+    record { point = record { 0 = p }; series = true; kind = k; area = a; partner = b; versions = false; version = record { 0 = 0 } }
+
+-- or a point and its versions, one of them by its number
+abbrev pub askingVersions : (point version : ℕ) → Asks
+askingVersions p x =
+    record { point = record { 0 = p }; series = false; kind = 0; area = 0; partner = 0; versions = true; version = record { 0 = x } }
 
 -- ---- what a call is
 
@@ -147,7 +154,7 @@ terms (activates p k a b d) =
       takes = noStore;
       quarters = λ m. m;
       day = λ e. d;
-      asks = asking p 0 k a b;
+      asks = askingSeries p k a b;
       rules = λ v n.
           rule (not (isOpen (v .frame .opening))) NotOpen
           (rule (not (pointOk p && (dayOk d && seriesOk k a b))) BadField
@@ -163,7 +170,7 @@ terms (deactivates p d) =
       takes = noStore;
       quarters = λ m. m;
       day = λ e. d;
-      asks = asking p 0 0 0 0;
+      asks = askingVersions p 0;
       rules = λ v n.
           rule (not (isOpen (v .frame .opening))) NotOpen
           (rule (not (pointOk p && dayOk d)) BadField
@@ -179,7 +186,7 @@ terms (submits p x d es) =
       takes = everyStore;
       quarters = λ m. m;
       day = λ e. d;
-      asks = asking p x 0 0 0;
+      asks = askingVersions p x;
       rules = λ v n.
           rule (not (isOpen (v .frame .opening))) NotOpen
           (rule (otherLengths everyStore n (v .frame .opening)) WrongLength
@@ -202,7 +209,7 @@ terms (notices p x y d) =
       takes = everyStore;
       quarters = λ m. m;
       day = λ e. d;
-      asks = asking p x 0 0 0;
+      asks = askingVersions p x;
       rules = λ v n.
           rule (not (isOpen (v .frame .opening))) NotOpen
           (rule (otherLengths everyStore n (v .frame .opening)) WrongLength
@@ -251,7 +258,7 @@ terms (asks p x) =
       takes = noStore;
       quarters = λ m. m;
       day = λ e. e;
-      asks = asking p x 0 0 0;
+      asks = askingVersions p x;
       rules = λ v n.
           rule (not (isOpen (v .frame .opening))) NotOpen
           (rule (not (pointOk p && versionOk x)) BadField

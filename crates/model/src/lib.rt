@@ -67,13 +67,16 @@ pub enum Ruling {
     Refuse(Cause),
 }
 
-// What a call asks of the desk: a point and a version, and for an activation its series; 0 where there is none.
+// What a call asks of the desk: a point, 0 where there is none; whether an active point has a series; whether the point has versions, and one of
+// them by its number.
 pub struct Asks {
     pub point: PointNo,
-    pub version: Version,
+    pub series: bool,
     pub kind: u64,
     pub area: u64,
     pub partner: u64,
+    pub versions: bool,
+    pub version: Version,
 }
 
 // Run 1's selection and run 2's own for a point, before and after a call.

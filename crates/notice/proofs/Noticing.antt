@@ -79,7 +79,7 @@ own-noticed run c p x y day vs = go (held p x vs) refl
     go (Has i v) e = by i v e (isCheck (v .status)) refl
 
 -- what a notice makes of the selections found is what it makes of the point's versions
-pub turned : (d : Desk) (p x y day : ℕ) (s : Survey) {rows : ℕ} → Surveyed rows p x (versionsIn d) s → turnBy (d .frame) y day s ≡ turnOf (versionsIn d) (noticedIn d p x y day) p
+pub turned : (d : Desk) (p x y day : ℕ) (s : Survey) → Surveyed p x (versionsIn d) s → turnBy (d .frame) y day s ≡ turnOf (versionsIn d) (noticedIn d p x y day) p
 turned d p x y day s f =
     let c = d .frame .opening .clearing .0 in
     let new1 : ownBy 1 y (confirmedStatus c day) (s .held) (s .first) ≡ own 1 p (noticedIn d p x y day) = rw (f .held, f .first, own-noticed 1 c p x y day (versionsIn d)) in

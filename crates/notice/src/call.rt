@@ -11,7 +11,7 @@ use checks::decisions::accept;
 use checks::decisions::outcome;
 use checks::decisions::refuse;
 use checks::looks::absent;
-use checks::looks::asking;
+use checks::looks::asking_versions;
 use checks::looks::is_open;
 use checks::looks::look;
 use checks::looks::not_check;
@@ -48,7 +48,7 @@ ghost use Rattle.state.specs.Desk.{versionsIn};
 ghost use Rattle.state.specs.Valid.{Sound};
 ghost use Rattle.state.specs.Effect.{changedBy, Fits};
 ghost use Rattle.model.specs.Call.{notices};
-ghost use Rattle.model.specs.Causes.{rules, firstOf, asking as askingFor};
+ghost use Rattle.model.specs.Causes.{rules, firstOf, askingVersions};
 ghost use Rattle.model.specs.Log.{due as dueOf};
 ghost use Rattle.model.specs.View.{viewOf};
 ghost use Rattle.checks.specs.Lent.{lengthsIn};
@@ -105,7 +105,7 @@ fn notice_ruling(
     n: Sizes,
 ) -> Ruling
     requires { ⌜ Sound d ⌝ }
-    requires { ⌜ Looked d (askingFor (point .0) (version .0) 0 0 0) l ⌝ }
+    requires { ⌜ Looked d (askingVersions (point .0) (version .0)) l ⌝ }
     requires { ⌜ due ≡ dueOf (versionsIn d) (noticedIn d (point .0) (version .0) verdict (day .0)) (point .0) (day .0) ⌝ }
     ensures { λ r. ⌜ r ≡ firstOf (rules (viewOf d) (lengthsIn n) (notices (point .0) (version .0) verdict (day .0))) ⌝ }
 {
@@ -179,7 +179,7 @@ pub fn decide_notice(
     book: &mut [u64],
     log: &mut [u64],
 ) -> Decided
-    requires { ⌜ Looked d (askingFor (point .0) (version .0) 0 0 0) l ⌝ }
+    requires { ⌜ Looked d (askingVersions (point .0) (version .0)) l ⌝ }
     ensures { λ r. ⌜ Fits d (r .effect) × Stepped d (notices (point .0) (version .0) verdict (day .0)) (now (values .entry)) (now (book .entry)) (now (log .entry)) (r .answer) (changedBy d (r .effect)) (now (values .entry)) (now (book .exit)) (now (log .exit)) ⌝ }
 {
     let f = d.frame;
@@ -217,7 +217,7 @@ pub fn notice(
 ) -> Outcome
     ensures { λ r. ⌜ Stepped d (notices (point .0) (version .0) verdict (day .0)) (now (values .entry)) (now (book .entry)) (now (log .entry)) (r .answer) (r .desk) (now (values .entry)) (now (book .exit)) (now (log .exit)) ⌝ }
 {
-    let l = look(d, asking(point, version));
+    let l = look(d, asking_versions(point, version));
     let r = decide_notice(d, l, point, version, verdict, day, values, book, log);
     outcome(d, r)
 }

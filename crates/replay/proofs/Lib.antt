@@ -7,6 +7,7 @@ pub mod Main
 pub mod Opened
 pub mod Over
 pub mod Parts
+pub mod Reached
 pub mod Runs
 pub mod Sendings
 pub mod Steps

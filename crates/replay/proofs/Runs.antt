@@ -39,6 +39,7 @@ use Rattle.replay.specs.Replay.{callsFor, endingOf}
 use Rattle.replay.specs.Run.{runningOf, Handed, playingOf, endedBy, Ran}
 use Rattle.replay.specs.declared.Ending.{Ending as EndingOf}
 use Rattle.replay.specs.declared.Ending.the-variants.{End, Full}
+use Rattle.replay.proofs.Reached.{Reached, reached-next}
 use Rattle.replay.proofs.Sendings.{same-call}
 
 -- the desk after a call, said otherwise
@@ -58,18 +59,20 @@ pub record Going (s : List ℕ) (start p : Playing) (at : ℕ) : Type 0 where
   pub inside : at ≤ length s
   pub few : p .answered ≤ length (start .answers)
   pub sized : Sized start p
+  pub reached : Reached (start .running .stores) (p .running)
   pub same : play start (callsFor s (length (start .series)) (length (start .answers)))
       ≡ play p (take (length (start .answers) - p .answered) (givenIn (callsIn (length (start .series)) (drop at s) .calls)))
   pub ending : endingOf (length s) (length (start .answers)) (callsIn (length (start .series)) s)
       ≡ endingOf (length s) (length (start .answers) - p .answered) (callsIn (length (start .series)) (drop at s))
 
-pub going : (s : List ℕ) (p : Playing) → p .answered ≡ 0 → Going s p p 0
-going s p e =
+pub going : (s : List ℕ) (p : Playing) → p .answered ≡ 0 → Reached (p .running .stores) (p .running) → Going s p p 0
+going s p e r =
     let z : length (p .answers) - p .answered ≡ length (p .answers) = omega arith in
     record {
       inside = omega arith;
       few = omega arith;
       sized = record { values = refl; book = refl; log = refl; series = refl; answers = refl };
+      reached = r;
       same = rw z;
       ending = rw z;
     }
@@ -116,6 +119,7 @@ module _ {s : List ℕ} {start p : Playing} {at : ℕ} (w : Going s start p at) 
           series = z .series ∙ w .sized .series;
           answers = z .answers ∙ w .sized .answers;
         };
+        reached = rw e (reached-next (start .running .stores) (p .running) _ (w .reached));
         same = w .same ∙ rw (t .calls, t .named, less, e);
         ending = w .ending ∙ rw (t .calls, less, e) (ending-next (length s) (most - suc (p .answered)) (t .call) (rest .calls) (rest .left) (rest .ending));
       }

@@ -1,6 +1,6 @@
 // A call on the desk, lent the part of the book that is its own.
 use checks::Decided;
-use checks::looks::look;
+use checks::looks::glance;
 use dispatch::asks::asks_of;
 use dispatch::asks::quarters_of;
 use dispatch::decisions::decide;
@@ -8,11 +8,16 @@ use message::DeskCall;
 use quantity::limits::BOOK_ROWS;
 use quantity::limits::DELTAS;
 use state::Desk;
+use state::PointRecord;
 ghost use mathlib.Core.Path.{_≡_};
 ghost use mathlib.Core.List.{map};
 ghost use Rattle.quantity.specs.Word.{signed};
+ghost use Rattle.state.specs.Desk.{isOpen};
 ghost use Rattle.state.specs.Effect.{changedBy, Fits};
+ghost use Rattle.state.specs.Valid.{validDesk};
+ghost use Rattle.model.specs.Causes.{terms};
 ghost use Rattle.checks.specs.Stepped.{storesOf};
+ghost use Rattle.checks.specs.Survey.{recordAt};
 ghost use Rattle.dispatch.specs.Asked.{asked};
 ghost use Rattle.replay.specs.Feeding.{lentOf};
 ghost use Rattle.replay.specs.Run.{runningOf, Handed};
@@ -28,9 +33,11 @@ pub fn lent_of(book: usize, q: u64) -> usize
     book
 }
 
-// One look at the desk, then the call's decision: it is lent the first figures of the book, and the other stores whole.
+// A look at the desk that is held, with the record of the point that the call names, then its decision: it is lent the first figures of the book, and
+// the other stores whole.
 pub fn lend_call(
     d: Desk,
+    p: PointRecord,
     call: DeskCall,
     groups: [u64; DELTAS as usize],
     series: &[u64],
@@ -38,9 +45,11 @@ pub fn lend_call(
     book: &mut [u64],
     log: &mut [u64],
 ) -> Decided
+    requires { ⌜ validDesk d ≡ isOpen (d .frame .opening) ⌝ }
+    requires { ⌜ p ≡ recordAt (d .points) (terms (asked call groups (map signed (now series))) .asks .point .0) ⌝ }
     ensures { λ r. ⌜ Fits d (r .effect) × Handed (runningOf d (storesOf (now (values .entry)) (now (book .entry)) (now (log .entry)))) (asked call groups (map signed (now (series .entry)))) (r .answer) (runningOf (changedBy d (r .effect)) (storesOf (now (values .exit)) (now (book .exit)) (now (log .exit)))) ⌝ }
 {
-    let l = look(d, asks_of(call));
+    let l = glance(d, p, asks_of(call));
     let frame = d.frame;
     let opening = frame.opening;
     let n = lent_of(book.len(), quarters_of(call, opening.quarters));

@@ -3,6 +3,7 @@ use crate::Ending;
 use crate::Replayed;
 use crate::lending::lend_call;
 use checks::numbers::number_of;
+use dispatch::asks::place_in;
 use reader::Step;
 use reader::read_call;
 use state::Tables;
@@ -42,7 +43,8 @@ fn ended_at(at: usize, length: usize) -> Ending
     }
 }
 
-// The effect is carried out as `state::effects::changed` does, here on the desk that is held: a desk that is handed on and given back is copied.
+// The effect is carried out as `state::effects::changed` does, here on the desk that is held: a desk that is handed on and given back is copied. An
+// opening is accepted on a fresh desk alone, whose tables stay; the point that a call names is read where it stands.
 // While there is room for an answer the next call is read and handed on with its energies. Without room the next call is not looked at.
 pub fn run_file(
     file: &[u8],
@@ -68,7 +70,9 @@ pub fn run_file(
                 desk,
             };
         };
-        let out = lend_call(desk, call, groups, &series[0..count], values, book, log);
+        let place = place_in(call);
+        let p = desk.points[place];
+        let out = lend_call(desk, p, call, groups, &series[0..count], values, book, log);
         let answer = out.answer;
         answers[answered] = number_of(answer);
         let effect = out.effect;
@@ -76,9 +80,7 @@ pub fn run_file(
         let frame = effect.frame;
         match tables {
             Tables::Same => {}
-            Tables::Fresh => {
-                desk = fresh_desk();
-            }
+            Tables::Fresh => {}
             Tables::Point { at, record } => {
                 desk.points[at as usize] = record;
             }

@@ -1,11 +1,12 @@
 -- What a call makes of the desk: the tables with what became of them, and all else as it is then.
 use Prim.Native.Nat.{_<_}
 use mathlib.Core.Path.{_≡_}
-use mathlib.Core.Bool.{true}
+use mathlib.Core.Bool.{true, false}
 use mathlib.Core.List.{List}
 use lib.ListN.{set, replicate}
 use Rattle.quantity.specs.Limits.{points, versions}
 use Rattle.state.specs.Change.{settledDesk}
+use Rattle.state.specs.Desk.{isOpen}
 use Rattle.state.specs.Point.{freePoint}
 use Rattle.state.specs.Valid.{validDesk}
 use Rattle.state.specs.Version.{emptyVersion}
@@ -41,10 +42,10 @@ changedBy d e = record { frame = e .frame; points = pointsBy d (e .tables); vers
 abbrev pub unchangedIn : Frame → Effect
 unchangedIn f = record { tables = Same; frame = f }
 
--- a record is put at a place of its table, and what is settled is a desk within its limits
+-- what is made anew is a desk that is not open, a record is put at a place of its table, and what is settled is a desk within its limits
 abbrev pub FitsIn : Desk → Tables → Type 0
 FitsIn d Same = Unit {0}
-FitsIn d Fresh = Unit {0}
+FitsIn d Fresh = isOpen (d .frame .opening) ≡ false
 FitsIn d (Point i r) = i < points
 FitsIn d (Version i v) = i < versions
 FitsIn d (Settled run) = validDesk d ≡ true

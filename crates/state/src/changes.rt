@@ -22,12 +22,12 @@ use quantity::PointNo;
 use quantity::Version;
 use quantity::limits::DELTAS;
 ghost use mathlib.Core.Path.{_≡_};
-ghost use mathlib.Core.Bool.{true};
+ghost use mathlib.Core.Bool.{true, false};
 ghost use Prim.Native.Nat.{_<_};
 ghost use lib.ListN.{set};
 ghost use Rattle.quantity.specs.Limits.{versions, deltas, dayOk, pointOk};
 ghost use Rattle.state.specs.Change.{settledDesk};
-ghost use Rattle.state.specs.Desk.{openDesk, deskWith, theDay, theGroups, theUsed, theSettled, thePoints, theVersions, flagged};
+ghost use Rattle.state.specs.Desk.{isOpen, openDesk, deskWith, theDay, theGroups, theUsed, theSettled, thePoints, theVersions, flagged};
 ghost use Rattle.state.specs.Point.{activePoint, withPoint, seriesOk};
 ghost use Rattle.state.specs.Valid.{validDesk};
 ghost use Rattle.state.specs.Version.{newVersion, restatus};
@@ -107,9 +107,9 @@ pub fn settle_run(f: Frame, run: u64, day: Day) -> Effect
     Effect { tables, frame }
 }
 
-// The desk made anew.
+// A desk that is not open made anew.
 pub fn open_desk(opening: Opening, groups: [u64; DELTAS as usize]) -> Effect
-    ensures { λ r. ⌜ ((d : Desk) → Fits d r × (changedBy d r ≡ openDesk opening groups)) ⌝ }
+    ensures { λ r. ⌜ ((d : Desk) → isOpen (d .frame .opening) ≡ false → Fits d r × (changedBy d r ≡ openDesk opening groups)) ⌝ }
 {
     let frame = open_frame(opening, groups);
     Effect {

@@ -11,7 +11,7 @@ ghost use Prim.Native.Nat.{_≤_};
 ghost use lib.ListN.{take, replicate};
 ghost use Rattle.quantity.specs.Limits.{points, versions as mostVersions};
 ghost use Rattle.state.specs.Change.{settleBy, settle};
-ghost use Rattle.state.specs.Settling.{PointsIn, higherOf, noVersion, Tops};
+ghost use Rattle.state.specs.Settling.{PointsIn, higherOf, noVersion};
 ghost use Rattle.state.specs.Walk.{mapFirst};
 
 // The higher of two versions, where the second counts.
@@ -33,29 +33,6 @@ pub fn no_tops() -> [Version; POINTS as usize]
     [none; POINTS as usize]
 }
 
-// For each point the highest version that counts in the run, 0 without one.
-fn tops(
-    versions: [VersionRecord; VERSIONS as usize],
-    count: u64,
-    run: u64,
-) -> [Version; POINTS as usize]
-    requires { ⌜ count ≤ mostVersions ⌝ }
-    requires { ⌜ PointsIn (take count versions) ⌝ }
-    ensures { λ r. ⌜ Tops run (take count versions) r ⌝ }
-{
-    let mut tops = no_tops();
-    let n = count as usize;
-    for i in 0..n {
-        let v = versions[i];
-        let status = v.status;
-        let version = v.version;
-        let k = (v.point.0 - 1) as usize;
-        let top = tops[k];
-        tops[k] = higher(top, counts_in(run, status), version);
-    }
-    tops
-}
-
 // A record that counts and is its point's highest is restated.
 pub fn settled_record(v: VersionRecord, run: u64, top: Version) -> VersionRecord
     ensures { λ r. ⌜ r ≡ settleBy run (top .0) v ⌝ }
@@ -68,29 +45,7 @@ pub fn settled_record(v: VersionRecord, run: u64, top: Version) -> VersionRecord
     }
 }
 
-fn restate(
-    versions: [VersionRecord; VERSIONS as usize],
-    count: u64,
-    run: u64,
-    tops: [Version; POINTS as usize],
-) -> [VersionRecord; VERSIONS as usize]
-    requires { ⌜ count ≤ mostVersions ⌝ }
-    requires { ⌜ PointsIn (take count versions) ⌝ }
-    requires { ⌜ Tops run (take count versions) tops ⌝ }
-    ensures { λ r. ⌜ r ≡ mapFirst count (settle run (take count versions)) versions ⌝ }
-{
-    let mut vs = versions;
-    let n = count as usize;
-    for i in 0..n {
-        let v = vs[i];
-        let k = (v.point.0 - 1) as usize;
-        let top = tops[k];
-        vs[i] = settled_record(v, run, top);
-    }
-    vs
-}
-
-// Run 1: each selected version gets 3. Run 2: each own one gets 5.
+// Run 1: each selected version gets 3. Run 2: each own one gets 5. Both passes go over one table here: handed on for each, it is copied for each.
 pub fn settled_versions(
     versions: [VersionRecord; VERSIONS as usize],
     count: u64,
@@ -100,6 +55,22 @@ pub fn settled_versions(
     requires { ⌜ PointsIn (take count versions) ⌝ }
     ensures { λ r. ⌜ r ≡ mapFirst count (settle run (take count versions)) versions ⌝ }
 {
-    let table = tops(versions, count, run);
-    restate(versions, count, run, table)
+    let mut vs = versions;
+    let mut tops = no_tops();
+    let n = count as usize;
+    for i in 0..n {
+        let v = vs[i];
+        let status = v.status;
+        let version = v.version;
+        let k = (v.point.0 - 1) as usize;
+        let top = tops[k];
+        tops[k] = higher(top, counts_in(run, status), version);
+    }
+    for i in 0..n {
+        let v = vs[i];
+        let k = (v.point.0 - 1) as usize;
+        let top = tops[k];
+        vs[i] = settled_record(v, run, top);
+    }
+    vs
 }

@@ -52,7 +52,7 @@ module _ (d : Desk) (p day : ℕ) (version : Version) (s : Survey) (few : d .fra
   one-run run e h =
       sym (rw (best-last (isCounted run p) (versionsIn d) (versionBy d p (version .0) day), eq-eqb p p refl, length-held d few table, h))
 
-  pub turned : {rows x : ℕ} → Surveyed rows p x (versionsIn d) s → turnBy (d .frame) version day s ≡ turnOf (versionsIn d) (submittedIn d p (version .0) day) p
+  pub turned : {x : ℕ} → Surveyed p x (versionsIn d) s → turnBy (d .frame) version day s ≡ turnOf (versionsIn d) (submittedIn d p (version .0) day) p
   turned f = λ i. record { old1 = f .first i; new1 = one-run 1 (s .first) (f .first) i; old2 = f .second i; new2 = one-run 2 (s .second) (f .second) i }
 
 -- a series that fills its part

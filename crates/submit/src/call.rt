@@ -14,7 +14,7 @@ use checks::decisions::accept;
 use checks::decisions::outcome;
 use checks::decisions::refuse;
 use checks::looks::absent;
-use checks::looks::asking;
+use checks::looks::asking_versions;
 use checks::looks::is_open;
 use checks::looks::look;
 use checks::points::is_active;
@@ -52,7 +52,7 @@ ghost use Rattle.state.specs.Desk.{versionsIn};
 ghost use Rattle.state.specs.Valid.{Sound};
 ghost use Rattle.state.specs.Effect.{changedBy, Fits};
 ghost use Rattle.model.specs.Call.{submits};
-ghost use Rattle.model.specs.Causes.{rules, firstOf, asking as askingFor};
+ghost use Rattle.model.specs.Causes.{rules, firstOf, askingVersions};
 ghost use Rattle.model.specs.Log.{due as dueOf};
 ghost use Rattle.model.specs.Step.{granting, versionBy};
 ghost use Rattle.model.specs.View.{viewOf};
@@ -99,7 +99,7 @@ fn submit_ruling(
     n: Sizes,
 ) -> Ruling
     requires { ⌜ Sound d ⌝ }
-    requires { ⌜ Looked d (askingFor (point .0) (version .0) 0 0 0) l ⌝ }
+    requires { ⌜ Looked d (askingVersions (point .0) (version .0)) l ⌝ }
     requires { ⌜ length (versionsIn d) ≡ d .frame .count ⌝ }
     requires { ⌜ due ≡ dueOf (versionsIn d) (submittedIn d (point .0) (version .0) (day .0)) (point .0) (day .0) ⌝ }
     ensures { λ r. ⌜ r ≡ firstOf (rules (viewOf d) (lengthsIn n) (submits (point .0) (version .0) (day .0) (map signed (now (series .entry))))) ⌝ }
@@ -176,7 +176,7 @@ pub fn decide_submit(
     book: &mut [u64],
     log: &mut [u64],
 ) -> Decided
-    requires { ⌜ Looked d (askingFor (point .0) (version .0) 0 0 0) l ⌝ }
+    requires { ⌜ Looked d (askingVersions (point .0) (version .0)) l ⌝ }
     ensures { λ r. ⌜ Fits d (r .effect) × Stepped d (submits (point .0) (version .0) (day .0) (map signed (now (series .entry)))) (now (values .entry)) (now (book .entry)) (now (log .entry)) (r .answer) (changedBy d (r .effect)) (now (values .exit)) (now (book .exit)) (now (log .exit)) ⌝ }
 {
     let f = d.frame;
@@ -215,7 +215,7 @@ pub fn submit(
 ) -> Outcome
     ensures { λ r. ⌜ Stepped d (submits (point .0) (version .0) (day .0) (map signed (now (series .entry)))) (now (values .entry)) (now (book .entry)) (now (log .entry)) (r .answer) (r .desk) (now (values .exit)) (now (book .exit)) (now (log .exit)) ⌝ }
 {
-    let l = look(d, asking(point, version));
+    let l = look(d, asking_versions(point, version));
     let r = decide_submit(d, l, point, version, day, series, values, book, log);
     outcome(d, r)
 }

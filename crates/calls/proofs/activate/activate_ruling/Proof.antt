@@ -54,7 +54,7 @@ returns c n =
     refl)
     refl)
     (rw (c .before .before .is-active .ensures, k .here)))
-    (k .taken)
+    (k .taken refl)
 
 pub activate-ruling-spec : {M : Type 1} → statement M
 activate-ruling-spec =

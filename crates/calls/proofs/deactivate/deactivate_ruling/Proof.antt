@@ -55,7 +55,7 @@ returns c n =
     refl)
     refl)
     (rw (c .before .before .before .is-active .ensures, k .here)))
-    (rw (c .before .is-selected .ensures, k .survey .highest) (best-any _ _))
+    (rw (c .before .is-selected .ensures, k .survey refl .highest) (best-any _ _))
 
 pub deactivate-ruling-spec : {M : Type 1} → statement M
 deactivate-ruling-spec =

@@ -40,10 +40,10 @@ same-length c = search needs
 returns-2 : tie.Need-returns-2
 returns-2 c =
     let k = c .accept .ensures in
-    let p = c .before .open-desk .ensures (c .before .before .before .before .before .before .before .before .before .before .before .before .before .args .d) in
     let v = c .before .before .before .before .before .before .before .before .open-ruling .ensures in
     let e = c .before .before .before .before .before .before .enum-told .given .1 in
-    let h = allowed _ _ (sym v ∙ e) in (
+    let h = allowed _ _ (sym v ∙ e) in
+    let p = c .before .open-desk .ensures (c .before .before .before .before .before .before .before .before .before .before .before .before .before .args .d) (h .1 .0) in (
       rw (k .1) (p .0),
       λ s. all-granted _ _ _ v e
           (record {

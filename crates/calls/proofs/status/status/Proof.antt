@@ -6,14 +6,14 @@ use borrow.Author.Needs.{needs}
 use Rattle.calls.proofs.status.status.Statement.{statement}
 use Rattle.calls.proofs.status.status.Tie as tie
 
-asking-requires : tie.Need-asking-requires
-asking-requires c κs = search needs
+asking-versions-requires : tie.Need-asking-versions-requires
+asking-versions-requires c κs = search needs
 
 look-requires : tie.Need-look-requires
 look-requires c κs = search needs
 
 status-ruling-requires : tie.Need-status-ruling-requires
-status-ruling-requires c κs = rw (c .before .before .asking .ensures) at (c .before .look .ensures)
+status-ruling-requires c κs = rw (c .before .before .asking-versions .ensures) at (c .before .look .ensures)
 
 enum-known-v : tie.Need-enum-known-v
 enum-known-v c = search needs
@@ -29,15 +29,15 @@ returns c s = answer-refused _ _ s (c .before .before .before .status-ruling .en
 
 returns-2 : tie.Need-returns-2
 returns-2 c s =
-    let l = rw (c .before .before .before .before .before .before .asking .ensures) at (c .before .before .before .before .before .look .ensures) in
+    let l = rw (c .before .before .before .before .before .before .asking-versions .ensures) at (c .before .before .before .before .before .look .ensures) in
     answer-granted _ _ s (c .before .before .before .status-ruling .ensures (lengthsOf s)) (c .before .enum-told .given .1)
-    (record { answered = rw (c .status-answer .ensures, l .survey .held); held = refl })
+    (record { answered = rw (c .status-answer .ensures, l .survey refl .held); held = refl })
 
 pub status-spec : {M : Type 1} → statement M
 status-spec =
     tie.close
     (tie.spec
-    asking-requires
+    asking-versions-requires
     look-requires
     status-ruling-requires
     enum-known-v

@@ -1,4 +1,5 @@
 -- `status_ruling` meets its contract. Assumes nothing.
+use mathlib.Core.Path.{refl}
 use Rattle.quantity.specs.Lists.{fold}
 use Rattle.model.specs.Causes.{firstOf}
 use Rattle.model.specs.Step.{refusalBy}
@@ -42,7 +43,7 @@ returns c n =
     (begun _ (o .at-work .ensures) (k .valid))
     (rw (c1 .before .before .point-ok .ensures, c1 .before .version-ok .ensures)))
     (rw (c .before .before .before .is-active .ensures, k .here)))
-    (rw (c .before .absent .ensures, k .survey .held))
+    (rw (c .before .absent .ensures, k .survey refl .held))
 
 pub status-ruling-spec : {M : Type 1} → statement M
 status-ruling-spec =

@@ -13,8 +13,8 @@ table c = search (needs, length-of)
 rows-in-requires : tie.Need-rows-in-requires
 rows-in-requires c κs = search needs
 
-survey-requires : tie.Need-survey-requires
-survey-requires c κs = search needs
+survey-tested-requires : tie.Need-survey-tested-requires
+survey-tested-requires c κs = search needs
 
 scan-requires : tie.Need-scan-requires
 scan-requires c κs = search needs
@@ -28,16 +28,16 @@ frame-ok-requires c κs = search needs
 returns : tie.Need-returns
 unfolding validDesk
 returns c =
-    let s = rw (c .before .before .before .before .before .before .rows-in .ensures) at (c .before .before .before .before .before .survey .ensures) in
-    let n = c .before .before .before .before .scan .ensures in
+    let s = rw (c .before .before .before .before .before .before .before .rows-in .ensures) at (c .before .before .before .before .before .before .survey-tested .ensures) in
+    let n = c .before .before .before .before .before .scan .ensures in
     record {
-      valid = rw (c .before .before .frame-ok .ensures, n .fit, s .fit);
-      here = c .before .before .before .state-at .ensures;
-      taken = n .taken;
-      table = table (c .before .before .before .before .before .before .before .before .before .before .before .before .before);
-      survey = s;
+      valid = rw (c .before .before .before .frame-ok .ensures, n .fit, s .fit);
+      here = c .before .before .before .before .state-at .ensures;
+      taken = λ _. n .taken;
+      table = table (c .before .before .before .before .before .before .before .before .before .before .before .before .before .before);
+      survey = λ _. s .survey;
     }
 
 pub look-spec : {M : Type 1} → statement M
 look-spec =
-    tie.close (tie.spec rows-in-requires survey-requires scan-requires state-at-requires frame-ok-requires returns)
+    tie.close (tie.spec rows-in-requires survey-tested-requires scan-requires state-at-requires frame-ok-requires returns)

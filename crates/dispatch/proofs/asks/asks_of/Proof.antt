@@ -13,23 +13,26 @@ asking-nothing-requires c κs = search needs
 enum-known-call : tie.Need-enum-known-call
 enum-known-call c = search needs
 
+asking-series-requires : tie.Need-asking-series-requires
+asking-series-requires c κs = search needs
+
 enum-known-call-2 : tie.Need-enum-known-call-2
 enum-known-call-2 c = search needs
 
-asking-requires : tie.Need-asking-requires
-asking-requires c κs = search needs
+asking-versions-requires : tie.Need-asking-versions-requires
+asking-versions-requires c κs = search needs
 
 enum-known-call-3 : tie.Need-enum-known-call-3
 enum-known-call-3 c = search needs
 
-asking-requires-2 : tie.Need-asking-requires-2
-asking-requires-2 c κs = search needs
+asking-versions-requires-2 : tie.Need-asking-versions-requires-2
+asking-versions-requires-2 c κs = search needs
 
 enum-known-call-4 : tie.Need-enum-known-call-4
 enum-known-call-4 c = search needs
 
-asking-requires-3 : tie.Need-asking-requires-3
-asking-requires-3 c κs = search needs
+asking-versions-requires-3 : tie.Need-asking-versions-requires-3
+asking-versions-requires-3 c κs = search needs
 
 enum-told-2 : tie.Need-enum-told-2
 enum-told-2 c = search needs
@@ -49,19 +52,19 @@ returns c gs es = rw (c .before .enum-told .given .1) (c .asking-nothing .ensure
 
 returns-2 : tie.Need-returns-2
 unfolding asked
-returns-2 c gs es = rw (c .before .call .given .1)
+returns-2 c gs es = rw (c .before .before .call .given .1) (c .asking-series .ensures)
 
 returns-3 : tie.Need-returns-3
 unfolding asked
-returns-3 c gs es = rw (c .before .before .call2 .given .1) (c .asking .ensures)
+returns-3 c gs es = rw (c .before .before .call2 .given .1) (c .asking-versions .ensures)
 
 returns-4 : tie.Need-returns-4
 unfolding asked
-returns-4 c gs es = rw (c .before .before .call3 .given .1) (c .asking2 .ensures)
+returns-4 c gs es = rw (c .before .before .call3 .given .1) (c .asking-versions2 .ensures)
 
 returns-5 : tie.Need-returns-5
 unfolding asked
-returns-5 c gs es = rw (c .before .before .call4 .given .1) (c .asking3 .ensures)
+returns-5 c gs es = rw (c .before .before .call4 .given .1) (c .asking-versions3 .ensures)
 
 returns-6 : tie.Need-returns-6
 unfolding asked
@@ -78,12 +81,13 @@ asks-of-spec =
     enum-told
     asking-nothing-requires
     enum-known-call
+    asking-series-requires
     enum-known-call-2
-    asking-requires
+    asking-versions-requires
     enum-known-call-3
-    asking-requires-2
+    asking-versions-requires-2
     enum-known-call-4
-    asking-requires-3
+    asking-versions-requires-3
     enum-told-2
     asking-nothing-requires-2
     enum-told-3

@@ -24,7 +24,7 @@ turn-is : (c : tie.After-notice-turn) → c .notice-turn .result ≡ turnOf (ver
 turn-is c =
     let s = c .before .before .before .before .before .before .before .before in
     let a = s .args in
-    c .notice-turn .ensures ∙ turned (a .d) (a .point .0) (a .version .0) (a .verdict) (a .day .0) (a .l .survey) (s .pre .survey)
+    c .notice-turn .ensures ∙ turned (a .d) (a .point .0) (a .version .0) (a .verdict) (a .day .0) (a .l .survey) (s .pre .survey refl)
 
 due-is : (c : tie.After-due-by) → c .due-by .result ≡ due (versionsIn (c .before .before .before .before .before .before .before .before .before .args .d)) (noticedIn (c .before .before .before .before .before .before .before .before .before .args .d) (c .before .before .before .before .before .before .before .before .before .args .point .0) (c .before .before .before .before .before .before .before .before .before .args .version .0) (c .before .before .before .before .before .before .before .before .before .args .verdict) (c .before .before .before .before .before .before .before .before .before .args .day .0)) (c .before .before .before .before .before .before .before .before .before .args .point .0) (c .before .before .before .before .before .before .before .before .before .args .day .0)
 unfolding due
@@ -71,7 +71,7 @@ notice-granted-requires : tie.Need-notice-granted-requires
 notice-granted-requires c κs =
     let s = c .before .before .before .before .before .before .before .before .before .before .before .before .before .before in
     let a = s .args in
-    notice-allowed (a .d) (a .point .0) (a .version .0) (a .verdict) (a .day .0) (a .values .now) (a .book .now) (a .log .now) _ _ _ (sound (a .d) (valid (c .before .before .before .before .before .before .before .before))) (s .pre .table) (s .pre .survey .held) (turn-is (c .before .before .before .before .before .before)) (due-is (c .before .before .before .before .before)) (s .pre .here)
+    notice-allowed (a .d) (a .point .0) (a .version .0) (a .verdict) (a .day .0) (a .values .now) (a .book .now) (a .log .now) _ _ _ (sound (a .d) (valid (c .before .before .before .before .before .before .before .before))) (s .pre .table) (s .pre .survey refl .held) (turn-is (c .before .before .before .before .before .before)) (due-is (c .before .before .before .before .before)) (s .pre .here)
     (sym (c .before .before .before .before .notice-ruling .ensures) ∙ c .before .before .enum-told .given .1)
 
 accept-requires : tie.Need-accept-requires
@@ -100,7 +100,7 @@ returns-3 c =
     let a = p .args in
     let call = notices (a .point .0) (a .version .0) (a .verdict) (a .day .0) in
     let g = c .before .before .before .before .before .notice-granted .ensures in
-    let stepped = notice-stepped (a .d) (a .point .0) (a .version .0) (a .verdict) (a .day .0) (a .values .now) (a .book .now) (a .log .now) _ _ _ (sound (a .d) (valid (c .before .before .before .before .before .before .before .before .before .before .before .before .before .before))) (p .pre .table) (p .pre .survey .held) (turn-is (c .before .before .before .before .before .before .before .before .before .before .before .before)) (due-is (c .before .before .before .before .before .before .before .before .before .before .before)) (p .pre .here) g in
+    let stepped = notice-stepped (a .d) (a .point .0) (a .version .0) (a .verdict) (a .day .0) (a .values .now) (a .book .now) (a .log .now) _ _ _ (sound (a .d) (valid (c .before .before .before .before .before .before .before .before .before .before .before .before .before .before))) (p .pre .table) (p .pre .survey refl .held) (turn-is (c .before .before .before .before .before .before .before .before .before .before .before .before)) (due-is (c .before .before .before .before .before .before .before .before .before .before .before)) (p .pre .here) g in
     rw (c .accept .ensures .0, c .accept .ensures .1) (
       g .fits,
       λ s.

@@ -3,14 +3,14 @@ use borrow.Author.Needs.{needs}
 use Rattle.notice.proofs.call.notice.Statement.{statement}
 use Rattle.notice.proofs.call.notice.Tie as tie
 
-asking-requires : tie.Need-asking-requires
-asking-requires c κs = search needs
+asking-versions-requires : tie.Need-asking-versions-requires
+asking-versions-requires c κs = search needs
 
 look-requires : tie.Need-look-requires
 look-requires c κs = search needs
 
 decide-notice-requires : tie.Need-decide-notice-requires
-decide-notice-requires c κs = rw (c .before .before .before .asking .ensures) at (c .before .before .look .ensures)
+decide-notice-requires c κs = rw (c .before .before .before .asking-versions .ensures) at (c .before .before .look .ensures)
 
 outcome-requires : tie.Need-outcome-requires
 outcome-requires c κs = search needs
@@ -28,7 +28,7 @@ pub notice-spec : {M : Type 1} → statement M
 notice-spec =
     tie.close
     (tie.spec
-    asking-requires
+    asking-versions-requires
     look-requires
     decide-notice-requires
     outcome-requires

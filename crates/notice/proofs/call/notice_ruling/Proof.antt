@@ -63,7 +63,7 @@ unfolding firstOf fold
 returns c =
     let s = c .before .before .before .before .before .before .before .before .before .before .before .before .before .before .before .before .before .before .before .before .before .before .before in
     let a = s .args in
-    let f = s .pre .1 .0 .survey in
+    let f = s .pre .1 .0 .survey refl in
     let here = s .pre .1 .0 .here in
     let k0 = checked NotOpen (c .before .before .before .before .before .before .before .before .before .before .before .before .before .before .before .before .before .before .or-if .ensures) refl (ap not (c .before .before .before .before .before .before .before .before .before .before .before .before .before .before .before .before .before .before .before .is-open .ensures)) in
     let k1 = checked WrongLength (c .before .before .before .before .before .before .before .before .before .before .before .before .before .before .before .before .or-if2 .ensures) k0 (c .before .before .before .before .before .before .before .before .before .before .before .before .before .before .before .before .before .other-lengths .ensures) in

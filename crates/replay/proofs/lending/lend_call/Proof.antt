@@ -1,6 +1,9 @@
 -- `lend_call` meets its contract. Assumes nothing.
+use mathlib.Core.Path.{sym, ap, _∙_}
 use mathlib.Core.List.{map}
 use Rattle.quantity.specs.Word.{signed}
+use Rattle.model.specs.declared.Asks.{Asks}
+use Rattle.checks.specs.Survey.{recordAt}
 use Rattle.replay.proofs.Parts.{lent-inside, handed-by}
 use borrow.Author.Needs.{needs}
 use Rattle.replay.proofs.lending.lend_call.Statement.{statement}
@@ -9,8 +12,11 @@ use Rattle.replay.proofs.lending.lend_call.Tie as tie
 asks-of-requires : tie.Need-asks-of-requires
 asks-of-requires c κs = search needs
 
-look-requires : tie.Need-look-requires
-look-requires c κs = search needs
+glance-requires : tie.Need-glance-requires
+glance-requires c κs =
+    let s = c .before .before .before .before .before in
+    let a = s .args in
+    (s .pre .0, s .pre .1 ∙ ap (λ (x : Asks). recordAt (a .d .points) (x .point .0)) (sym (c .asks-of .ensures (a .groups) (map signed (a .series .now)))))
 
 quarters-of-requires : tie.Need-quarters-of-requires
 quarters-of-requires c κs = search needs
@@ -30,7 +36,7 @@ part-decide-end c = rw (c .before .lent-of .ensures) (lent-inside _ _)
 decide-requires : tie.Need-decide-requires
 decide-requires c κs =
     let a = c .before .before .before .before .before .before .before .before .before .before .before .before .before .args in
-    rw (c .before .before .before .before .before .before .before .before .asks-of .ensures (a .groups) (map signed (a .series .now))) at (c .before .before .before .before .before .before .before .look .ensures)
+    rw (c .before .before .before .before .before .before .before .before .asks-of .ensures (a .groups) (map signed (a .series .now))) at (c .before .before .before .before .before .before .before .glance .ensures)
 
 same-length : tie.Need-same-length
 same-length c = search needs
@@ -51,7 +57,7 @@ lend-call-spec =
     tie.close
     (tie.spec
     asks-of-requires
-    look-requires
+    glance-requires
     quarters-of-requires
     lent-of-requires
     sub-decide

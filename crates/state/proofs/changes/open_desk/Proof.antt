@@ -8,7 +8,7 @@ open-frame-requires : tie.Need-open-frame-requires
 open-frame-requires c κs = search needs
 
 returns : tie.Need-returns
-returns c d = rw (c .open-frame .ensures) (tt, refl)
+returns c d e = rw (c .open-frame .ensures) (e, refl)
 
 pub open-desk-spec : {M : Type 1} → statement M
 open-desk-spec = tie.close (tie.spec open-frame-requires returns)

@@ -26,7 +26,7 @@ turn-is : (c : tie.After-submit-turn) → c .submit-turn .result ≡ turnOf (ver
 turn-is c =
     let s = c .before .before .before .before .before .before .before .before .before in
     let a = s .args in
-    c .submit-turn .ensures ∙ turned (a .d) (a .point .0) (a .day .0) (a .version) (a .l .survey) (sound (a .d) (valid (c .before .before)) .count) (s .pre .table) (s .pre .survey)
+    c .submit-turn .ensures ∙ turned (a .d) (a .point .0) (a .day .0) (a .version) (a .l .survey) (sound (a .d) (valid (c .before .before)) .count) (s .pre .table) (s .pre .survey refl)
 
 due-is : (c : tie.After-due-by) → c .due-by .result ≡ due (versionsIn (c .before .before .before .before .before .before .before .before .before .before .args .d)) (submittedIn (c .before .before .before .before .before .before .before .before .before .before .args .d) (c .before .before .before .before .before .before .before .before .before .before .args .point .0) (c .before .before .before .before .before .before .before .before .before .before .args .version .0) (c .before .before .before .before .before .before .before .before .before .before .args .day .0)) (c .before .before .before .before .before .before .before .before .before .before .args .point .0) (c .before .before .before .before .before .before .before .before .before .before .args .day .0)
 unfolding due

@@ -3,14 +3,14 @@ use borrow.Author.Needs.{needs}
 use Rattle.submit.proofs.call.submit.Statement.{statement}
 use Rattle.submit.proofs.call.submit.Tie as tie
 
-asking-requires : tie.Need-asking-requires
-asking-requires c κs = search needs
+asking-versions-requires : tie.Need-asking-versions-requires
+asking-versions-requires c κs = search needs
 
 look-requires : tie.Need-look-requires
 look-requires c κs = search needs
 
 decide-submit-requires : tie.Need-decide-submit-requires
-decide-submit-requires c κs = rw (c .before .before .before .before .asking .ensures) at (c .before .before .before .look .ensures)
+decide-submit-requires c κs = rw (c .before .before .before .before .asking-versions .ensures) at (c .before .before .before .look .ensures)
 
 outcome-requires : tie.Need-outcome-requires
 outcome-requires c κs = search needs
@@ -31,7 +31,7 @@ pub submit-spec : {M : Type 1} → statement M
 submit-spec =
     tie.close
     (tie.spec
-    asking-requires
+    asking-versions-requires
     look-requires
     decide-submit-requires
     outcome-requires
