@@ -1,7 +1,12 @@
 //! The amending desk: it amends its state, the book and the log through `&mut`, and allocates nothing.
 //!
-//! Each call makes the checks of the table in their order. Its first one, the limits of the state, is made on every call:
-//! one walk over the points and one over the versions held, which find out all else that a call asks of them.
+//! Each call makes the checks of the table in their order. The first one, the limits of the state, stands in two forms:
+//!
+//! - tested at each call (`replay`), as document 01 asks of a desk that is handed its state from outside: one walk over the
+//!   points and one over the versions held, which find out all else that a call asks of them;
+//! - not tested at all (`replay_untested`), as a careful engineer would have it here: the desk is made in `replay`, nobody
+//!   else has its state, and no accepted call leaves the limits, so that only the missing opening is left of cause 1. A call
+//!   then goes through the versions of its own point alone.
 
 use crate::buffers::Buffers;
 use crate::cause::{
@@ -75,6 +80,8 @@ struct Version {
     point: u16,
     row: u16,
     status: Status,
+    /// The point's version before it.
+    before: Option<u16>,
 }
 
 impl Version {
@@ -84,6 +91,7 @@ impl Version {
         point: 0,
         row: 0,
         status: Status::Check,
+        before: None,
     };
 
     fn fits(&self, rows: u64) -> bool {
@@ -136,20 +144,22 @@ struct Look {
     second: Option<Pick>,
 }
 
-/// The desk's state.
-struct Desk {
+/// The desk's state, whose limits are tested at each call or not at all.
+struct Desk<const TESTED: bool> {
     opening: Opening,
     day: u64,
     groups: [u64; DELTAS],
     used: usize,
     settled: [bool; 2],
     points: [Option<Active>; POINTS],
+    /// The last version of each point.
+    last: [Option<u16>; POINTS],
     count: usize,
     versions: [Version; VERSIONS],
 }
 
-impl Desk {
-    fn opened(opening: Opening, groups: [u64; DELTAS]) -> Desk {
+impl<const TESTED: bool> Desk<TESTED> {
+    fn opened(opening: Opening, groups: [u64; DELTAS]) -> Self {
         Desk {
             opening,
             day: 0,
@@ -157,12 +167,13 @@ impl Desk {
             used: 0,
             settled: [false; 2],
             points: [None; POINTS],
+            last: [None; POINTS],
             count: 0,
             versions: [Version::NONE; VERSIONS],
         }
     }
 
-    fn fresh() -> Desk {
+    fn fresh() -> Self {
         let unopened = Opening {
             quarters: 0,
             deadlines: [0; 3],
@@ -170,7 +181,7 @@ impl Desk {
             book: 0,
             log: 0,
         };
-        Desk::opened(unopened, [0; DELTAS])
+        Self::opened(unopened, [0; DELTAS])
     }
 
     /// The limits of all but the two tables.
@@ -189,17 +200,39 @@ impl Desk {
             && self.used <= log / LOG_ROW
     }
 
-    /// The limits of the state, with what the call asks of the two tables.
+    /// What the call asks of the two tables, with the limits of the state where they are tested.
     fn look(&self, point: u64, number: u64, series: (u64, u64, u64)) -> Result<Look, Cause> {
+        if TESTED {
+            self.tested(point, number, series)
+        } else {
+            refuse_if(self.opening.quarters == 0, Cause::NotOpen)?;
+            Ok(self.untested(point, number, series))
+        }
+    }
+
+    /// The points are looked at for a series alone, and of the versions those of the point.
+    fn untested(&self, point: u64, number: u64, series: (u64, u64, u64)) -> Look {
+        let mut look = Look::NOTHING;
+        if series.0 != 0 {
+            let mut active = self.points.iter().flatten();
+            look.taken = active.any(|active| active.series() == series);
+        }
+        let mut next = None;
+        if is_point(point) {
+            next = self.last[point as usize - 1];
+        }
+        while let Some(at) = next {
+            let version = &self.versions[at as usize];
+            look.meet(at.into(), version, number);
+            next = version.before;
+        }
+        look
+    }
+
+    fn tested(&self, point: u64, number: u64, series: (u64, u64, u64)) -> Result<Look, Cause> {
         refuse_if(!self.frame_fits(), Cause::NotOpen)?;
         let mut fit = true;
-        let mut look = Look {
-            taken: false,
-            held: None,
-            highest: 0,
-            first: None,
-            second: None,
-        };
+        let mut look = Look::NOTHING;
         for active in self.points.iter().flatten() {
             fit &= active.fits();
             look.taken |= active.series() == series;
@@ -233,7 +266,7 @@ impl Desk {
         let fits = opening.fits() && groups.iter().all(|&group| is_group(group));
         refuse_if(!fits, Cause::BadOpening)?;
         stores.book.fill(0);
-        *self = Desk::opened(opening, groups);
+        *self = Self::opened(opening, groups);
         Ok(())
     }
 
@@ -311,7 +344,9 @@ impl Desk {
             point: point as u16,
             row: at as u16,
             status,
+            before: self.last[point as usize - 1],
         };
+        self.last[point as usize - 1] = Some(at as u16);
         self.count += 1;
         self.day = day;
         self.follow(turn, active, at, &look, stores);
@@ -506,6 +541,14 @@ impl Desk {
 }
 
 impl Look {
+    const NOTHING: Look = Look {
+        taken: false,
+        held: None,
+        highest: 0,
+        first: None,
+        second: None,
+    };
+
     /// A version of the point.
     fn meet(&mut self, at: usize, version: &Version, number: u64) {
         if version.number == number && self.held.is_none() {
@@ -535,7 +578,7 @@ impl Look {
     }
 }
 
-impl replay::Desk for Desk {
+impl<const TESTED: bool> replay::Desk for Desk<TESTED> {
     fn quarters(&self) -> u64 {
         self.opening.quarters
     }
@@ -545,11 +588,16 @@ impl replay::Desk for Desk {
     }
 
     fn ended(self, _: &mut [u64], _: &mut [u64]) -> (usize, usize) {
-        (self.used as usize, self.count as usize)
+        (self.used, self.count)
     }
 }
 
-/// A whole message file through a fresh desk: 0, or the number of the refusal that ended it.
+/// A whole message file through a fresh desk that tests cause 1 at each call: 0, or the number of the refusal that ended it.
 pub fn replay(file: &[u8], buffers: &mut Buffers) -> u64 {
-    replay::replay(Desk::fresh(), file, buffers)
+    replay::replay(Desk::<true>::fresh(), file, buffers)
+}
+
+/// The same through a desk that tests of cause 1 the missing opening alone.
+pub fn replay_untested(file: &[u8], buffers: &mut Buffers) -> u64 {
+    replay::replay(Desk::<false>::fresh(), file, buffers)
 }

@@ -6,6 +6,7 @@
 //! | `amending` | a desk that amends its state and the book |
 //! | `plain` | a desk that keeps the accepted calls and works the book out anew at each |
 //! | `cause`, `series`, `row` | what the two share: causes and ranges, the table of series, a row of the book |
+//! | `reader` | the reader of the two, and a check of a whole file by it |
 //! | `replay` | a message file handed to one of the two |
 //! | `buffers` | what a replay is lent |
 //! | `compare` | desks compared on a file |
@@ -21,6 +22,7 @@ pub mod compare;
 pub mod linked;
 pub mod months;
 pub mod plain;
+pub mod reader;
 pub mod replay;
 pub mod row;
 pub mod series;
@@ -28,26 +30,26 @@ pub mod stack;
 
 use std::time::Instant;
 
-/// The best time of each of two functions, in nanoseconds a call. Each round calls the one `calls` times, then the
-/// other, so that what else the machine does falls on both. A round that is not counted goes before.
-pub fn best(
+/// The best time of each of some functions, in nanoseconds a call. Each round calls the first one `calls` times, then the
+/// next, so that what else the machine does falls on all. A round that is not counted goes before.
+pub fn best<const N: usize>(
     rounds: usize,
     calls: usize,
-    mut one: impl FnMut(),
-    mut other: impl FnMut(),
-) -> (f64, f64) {
-    let (mut best_one, mut best_other) = (f64::INFINITY, f64::INFINITY);
+    mut functions: [&mut dyn FnMut(); N],
+) -> [f64; N] {
+    let mut best = [f64::INFINITY; N];
     for round in 0..=rounds {
-        let times = (timed(calls, &mut one), timed(calls, &mut other));
-        if round > 0 {
-            best_one = best_one.min(times.0);
-            best_other = best_other.min(times.1);
+        for (best, function) in best.iter_mut().zip(&mut functions) {
+            let time = timed(calls, function);
+            if round > 0 {
+                *best = best.min(time);
+            }
         }
     }
-    (best_one, best_other)
+    best
 }
 
-fn timed(calls: usize, function: &mut impl FnMut()) -> f64 {
+fn timed(calls: usize, function: &mut dyn FnMut()) -> f64 {
     let start = Instant::now();
     for _ in 0..calls {
         function();

@@ -1,7 +1,8 @@
 //! A message file handed to a desk in Rust, call after call.
 
 use crate::buffers::{lent, Buffers, REPORT};
-use emorizugu_tests::message::{self, Call};
+use crate::reader::Reader;
+use emorizugu_tests::message::{Call, Cause};
 
 /// The stores lent to a call.
 pub struct Stores<'a> {
@@ -38,14 +39,15 @@ pub fn replay(mut desk: impl Desk, file: &[u8], buffers: &mut Buffers) -> u64 {
     if report.len() < REPORT {
         return 2;
     }
+    let mut reader = Reader::new();
     let mut at = 0;
     let mut answered = 0;
     let result = loop {
         if answered == answers.len() && at < file.len() as u64 {
             at = 0;
-            break message::Cause::Room.number();
+            break Cause::Room.number();
         }
-        let call = match message::read(file, at, series) {
+        let call = match reader.read(file, at, series) {
             Ok(Some(call)) => call,
             Ok(None) => break 0,
             Err(refusal) => break refusal.cause.number(),

@@ -1,14 +1,16 @@
-//! A valid message file checked by the host's entry and by the reader in plain Rust.
+//! A valid message file checked by the host's entry (linked), by the reader of `tests/` with its number reader inlined by
+//! force (inlined), by the reader of the benches' desks (straight); and copied as it is (copy).
 //!
-//!     message                        a line for each file and size: nanoseconds a check of both
-//!     message linked|rust FILE SIZE  one check by one of them, for a count of its instructions
+//!     message                  a line for each file and size: nanoseconds of each
+//!     message NAME FILE SIZE   one check or copy, for a count of its instructions
 //!
 //! Three files: `month` has submissions whose energies are of one level each, as a network's are, `mixed` has energies
 //! of any number of bytes from one to six, `calls` has calls without a series alone.
 //!
-//! Neither reader has a buffer to clear: both only read the file, and both have read it before the first round.
+//! No reader has a buffer to clear: all only read the file, and have read it before the first round. The copy goes to memory
+//! that was written before.
 
-use emorizugu_bench::best;
+use emorizugu_bench::{best, reader};
 use emorizugu_tests::generator::Random;
 use emorizugu_tests::{linked, message, numbers};
 use std::arch::asm;
@@ -43,11 +45,25 @@ pub fn bench_linked(file: &[u8]) -> u64 {
     linked::file_refusal(file)
 }
 
-/// The reader in plain Rust, called as the host's entry is.
+/// The reader of `tests/`, called as the host's entry is.
 #[no_mangle]
 #[inline(never)]
-pub fn bench_rust(file: &[u8]) -> u64 {
+pub fn bench_inlined(file: &[u8]) -> u64 {
     numbers::verdict(file).0
+}
+
+/// The reader of the benches' desks.
+#[no_mangle]
+#[inline(never)]
+pub fn bench_straight(file: &[u8]) -> u64 {
+    reader::check(file).map_or_else(|refusal| refusal.cause.number(), |()| 0)
+}
+
+/// A plain copy.
+#[no_mangle]
+#[inline(never)]
+pub fn bench_copy(file: &[u8], to: &mut [u8]) {
+    to.copy_from_slice(file);
 }
 
 /// A file as it grows, and room for one call.
@@ -125,22 +141,30 @@ fn file(name: &str, size: usize) -> Vec<u8> {
     growing.file
 }
 
-/// Times both on each file, by turns.
+/// Times all on each file, by turns.
 fn time() {
     for name in FILES {
         for size in SIZES {
             let file = file(name, size);
             assert_eq!(file.len(), size);
-            assert_eq!((bench_linked(&file), bench_rust(&file)), (0, 0));
-            let linked = || {
+            let verdicts = [bench_linked, bench_inlined, bench_straight].map(|check| check(&file));
+            assert_eq!(verdicts, [0; 3]);
+            let mut to = vec![1; size];
+            let mut linked = || {
                 black_box(bench_linked(black_box(&file)));
             };
-            let rust = || {
-                black_box(bench_rust(black_box(&file)));
+            let mut inlined = || {
+                black_box(bench_inlined(black_box(&file)));
             };
+            let mut straight = || {
+                black_box(bench_straight(black_box(&file)));
+            };
+            let mut copy = || bench_copy(black_box(&file), black_box(&mut to));
             let calls = (ROUND / size).max(1);
-            let (linked, rust) = best(TOTAL / (calls * size), calls, linked, rust);
-            println!("{name} {size} {linked:.0} {rust:.0}");
+            let all: [&mut dyn FnMut(); 4] = [&mut linked, &mut inlined, &mut straight, &mut copy];
+            let times = best(TOTAL / (calls * size), calls, all);
+            let times = times.map(|time| format!("{time:.0}")).join(" ");
+            println!("{name} {size} {times}");
         }
     }
 }
@@ -150,17 +174,22 @@ fn main() {
     let words: Vec<&str> = words.iter().map(String::as_str).collect();
     match words[..] {
         [] => time(),
-        [which @ ("linked" | "rust"), name, size] if FILES.contains(&name) => {
+        [which, name, size] if FILES.contains(&name) => {
             let file = file(name, size.parse().expect("a size in bytes"));
             let answer = match which {
                 "linked" => bench_linked(&file),
-                _ => bench_rust(&file),
+                "inlined" => bench_inlined(&file),
+                "straight" => bench_straight(&file),
+                _ => {
+                    bench_copy(&file, &mut vec![1; file.len()]);
+                    0
+                }
             };
             println!("{which} {name} {size}: {answer}");
         }
         _ => {
             space();
-            eprintln!("usage: message [linked|rust month|mixed|calls SIZE]");
+            eprintln!("usage: message [linked|inlined|straight|copy month|mixed|calls SIZE]");
             exit(2);
         }
     }

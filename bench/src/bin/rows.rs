@@ -73,9 +73,9 @@ fn main() {
 
     let mut linked_row = vec![0; FIGURES];
     let mut rust_row = vec![0; FIGURES];
-    let linked = || linked_add_row(black_box(&mut linked_row), black_box(&series));
-    let rust = || rust_add_row(black_box(&mut rust_row), black_box(&series));
-    let (linked, rust) = best(ROUNDS, CALLS, linked, rust);
+    let mut linked = || linked_add_row(black_box(&mut linked_row), black_box(&series));
+    let mut rust = || rust_add_row(black_box(&mut rust_row), black_box(&series));
+    let [linked, rust] = best(ROUNDS, CALLS, [&mut linked, &mut rust]);
     assert_eq!(linked_row, rust_row, "both rows after as many additions");
     println!(
         "row of {FIGURES} added: linked {linked:.0} ns, rust {rust:.0} ns, linked : rust {:.3}",
@@ -84,21 +84,21 @@ fn main() {
 
     let mut once_row = vec![0; FIGURES];
     let mut twice_row = vec![0; FIGURES];
-    let once = || {
+    let mut once = || {
         replace_row(
             black_box(&mut once_row),
             black_box(&series),
             black_box(&new),
         )
     };
-    let twice = || {
+    let mut twice = || {
         replace_row_twice(
             black_box(&mut twice_row),
             black_box(&series),
             black_box(&new),
         )
     };
-    let (once, twice) = best(ROUNDS, CALLS, once, twice);
+    let [once, twice] = best(ROUNDS, CALLS, [&mut once, &mut twice]);
     assert_eq!(once_row, twice_row, "both rows after as many replacements");
     println!(
         "old out and new in: one pass {once:.0} ns, two passes {twice:.0} ns, one : two {:.3}",

@@ -29,6 +29,11 @@ fields-some =
 pub fields-none : (k : ℕ) → kinds < k → 0 ≡ fieldsOf k
 fields-none k h = sym (List·getD-eq-default fieldCounts 0 {n = k} h)
 
+pub fields-other : (k : ℕ) → (k ≡ 1 → ⊥) → (k ≡ 2 → ⊥) → (k ≡ 3 → ⊥) → (k ≡ 4 → ⊥) → (k ≡ 5 → ⊥) → (k ≡ 6 → ⊥) → (k ≡ 7 → ⊥) → 0 ≡ fieldsOf k
+fields-other =
+    by-kind (λ (k : ℕ). (k ≡ 1 → ⊥) → (k ≡ 2 → ⊥) → (k ≡ 3 → ⊥) → (k ≡ 4 → ⊥) → (k ≡ 5 → ⊥) → (k ≡ 6 → ⊥) → (k ≡ 7 → ⊥) → 0 ≡ fieldsOf k) (λ a b c d e f g. refl) (λ a b c d e f g. absurd (a refl)) (λ a b c d e f g. absurd (b refl)) (λ a b c d e f g. absurd (c refl)) (λ a b c d e f g. absurd (d refl)) (λ a b c d e f g. absurd (e refl)) (λ a b c d e f g. absurd (f refl)) (λ a b c d e f g. absurd (g refl))
+    (λ k h a b c d e f g. fields-none k h)
+
 pub fields-few : (k : ℕ) → fieldsOf k ≤ mostFields
 fields-few =
     by-kind (λ (k : ℕ). fieldsOf k ≤ mostFields) (omega arith) (omega arith) (omega arith) (omega arith) (omega arith) (omega arith) (omega arith) (omega arith)

@@ -1,17 +1,19 @@
 -- The steps of the check of a whole file: what is passed over is what the reader reads. Assumes nothing.
-use Prim.Native.Nat.{ℕ, _<_, _≤_}
+use Prim.Native.Nat.{ℕ, _+_, _<_, _≤_}
 use mathlib.Core.Path.{_≡_, refl, sym, ap, _∙_}
 use mathlib.Core.Bool.{true, false}
 use mathlib.Core.List.{List, map}
 use native.Mathlib.Omega.{arith}
-use borrow.Author.Tests.{eq-eqb, ne-eqb}
+use borrow.Author.Tests.{eq-eqb, ne-eqb, leb-true}
+use lib.Dec.{leb}
 use lib.IntN.{ℤ}
-use lib.ListN.{length, drop, length-drop, drop-of-length-le}
+use lib.ListN.{length, drop, getD, length-drop, drop-of-length-le}
 use Rattle.quantity.specs.Limits.{mostQuarters}
+use Rattle.quantity.proofs.Tests.{and-right}
 use Rattle.message.specs.Read.{Read, got, refused, onward}
 use Rattle.message.specs.Number.{numbersIn}
 use Rattle.message.specs.Energy.{received}
-use Rattle.message.specs.Call.{submission, fieldsOf, isKind, countIn, tailIn, kindIn, parse}
+use Rattle.message.specs.Call.{submission, kinds, fieldsOf, isKind, countIn, tailIn, kindIn, parse}
 use Rattle.message.specs.File.{Found, callsIn, verdictAt, verdictOf}
 use Rattle.message.specs.Offset.{itself, numberOf, numberAt, passedOf}
 use Rattle.message.specs.declared.FileCause.{FileCause}
@@ -22,6 +24,7 @@ use Rattle.message.specs.declared.NumberRead.the-variants.{Number, Refus
 use Rattle.message.specs.declared.Passed.{Passed}
 use Rattle.message.specs.declared.Passed.the-variants.{To, Refused as NotPassed}
 use Rattle.message.proofs.Numbers.{numbers-read}
+use Rattle.message.proofs.NumberSteps.{only-at}
 use Rattle.message.proofs.Calls.{parse-read}
 use Rattle.message.proofs.Files.{calls-none, calls-next, calls-stop}
 use Rattle.message.proofs.Placed.{offset-is, Placed, passed-to, passed-not, number-not, found, found-not}
@@ -66,6 +69,10 @@ module _ (s : List ℕ) («from» k : ℕ) (known : isKind k ≡ true) {m : ℕ}
 pub call-goes : (s : List ℕ) (at : ℕ) {k n : ℕ} {r : Passed} → numberAt s at ≡ Number k n → r ≡ passedOf (length s) (kindIn mostQuarters k (drop n s)) →
     r ≡ passedOf (length s) (parse mostQuarters (drop at s))
 call-goes s at e p = rw (found s at e .decoded) p
+
+-- a kind of one byte
+pub kind-at : (s : List ℕ) (at : ℕ) {k : ℕ} → at < length s → k ≡ getD s at 0 → isKind k ≡ true → numberAt s at ≡ Number k (at + 1)
+kind-at s at {k} h q e = sym (only-at s at h q (omega (arith, leb-true k kinds (and-right (leb 1 k) (leb k kinds) e))))
 
 pub call-not : (s : List ℕ) (at : ℕ) {x : FileCause} → numberAt s at ≡ NoNumber x → NotPassed x ≡ passedOf (length s) (parse mostQuarters (drop at s))
 call-not s at e = rw (found-not s at e)

@@ -1,3 +1,5 @@
+pub mod Blocks
+pub mod Bytes
 pub mod ByKind
 pub mod Calls
 pub mod Energies
@@ -6,6 +8,7 @@ pub mod Files
 pub mod FileSteps
 pub mod Copying
 pub mod CountSteps
+pub mod KnownSteps
 pub mod Numbers
 pub mod NumberSteps
 pub mod Parsers

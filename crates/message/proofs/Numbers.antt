@@ -159,6 +159,20 @@ decode-in-behind (suc k) first (b ∷ s) {v} {r} e = step (digits k b first s e)
 pub decode-behind : (s : List ℕ) {v : ℕ} {r : List ℕ} → decode s ≡ got v r → Behind 1 s r
 decode-behind s e = decode-in-behind 9 true s e
 
+decode-in-few : (k : ℕ) (first : Bool) (s : List ℕ) {v : ℕ} {r : List ℕ} → decodeIn k first s ≡ got v r → length s ≤ length r + k
+unfolding decodeIn
+decode-in-few zero first s e = absurd (refused-got e)
+decode-in-few (suc k) first [] e = absurd (refused-got e)
+decode-in-few (suc k) first (b ∷ s) {v} {r} e = step (digits k b first s e) (λ u. decode-in-few k false s)
+  where
+    step : Digits k b first s v r → ((u : ℕ) → decodeIn k false s ≡ got u r → length s ≤ length r + k) → length (b ∷ s) ≤ length r + suc k
+    step (at-last h q p f) ih = omega (arith, ap length p)
+    step (at-more u h q p) ih = omega (arith, ih u q)
+
+-- nine bytes at most
+pub decode-few : (s : List ℕ) {v : ℕ} {r : List ℕ} → decode s ≡ got v r → length s ≤ length r + 9
+decode-few s e = decode-in-few 9 true s e
+
 pub encode-some : (k n : ℕ) → 1 ≤ length (encodeIn (suc k) n)
 encode-some k n = go (decLt n 128)
   where

@@ -24,6 +24,11 @@ prepend-one : (vs : List ℕ) (v : ℕ) (d : Read (List ℕ)) → prepend vs (on
 prepend-one vs v (got us r) = ap (λ (x : List ℕ). got x r) (sym (append-assoc vs (v ∷ []) us))
 prepend-one vs v (refused x) = refl
 
+-- they do not move what follows the row
+passed-behind : (size : ℕ) (vs : List ℕ) (d : Read (List ℕ)) → passedOf size (prepend vs d) ≡ passedOf size d
+passed-behind size vs (got us r) = refl
+passed-behind size vs (refused x) = refl
+
 -- i numbers, vs, of n have been read from `at` on, up to j
 pub record Passing (s : List ℕ) (at n j i : ℕ) (vs : List ℕ) : Type 0 where
   pub inside : j ≤ length s
@@ -62,3 +67,7 @@ module _ {s : List ℕ} {at n j i : ℕ} {vs : List ℕ} (w : Passing s at n j i
 
   pub not-passed : {x : FileCause} → i < n → numberAt s j ≡ NoNumber x → NotPassed x ≡ passedOf (length s) (numbersIn n (drop at s))
   not-passed h e = rw (stopped h e)
+
+  -- what is left has the same end
+  pub left-same : passedOf (length s) (numbersIn n (drop at s)) ≡ passedOf (length s) (numbersIn (n - i) (drop j s))
+  left-same = ap (passedOf (length s)) (w .same) ∙ passed-behind (length s) vs (numbersIn (n - i) (drop j s))

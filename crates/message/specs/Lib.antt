@@ -1,3 +1,4 @@
+pub mod Block
 pub mod Call
 pub mod Cause
 pub mod Energy

@@ -1,5 +1,6 @@
 -- What a parser finds at the head of a list of bytes.
 use Prim.Native.Nat.{ℕ}
+use mathlib.Core.Bool.{Bool, true, false}
 use mathlib.Core.List.{List}
 use Rattle.message.specs.declared.FileCause.{FileCause}
 
@@ -12,3 +13,8 @@ pub data Read (A : Type 0) : Type 0 where
 abbrev pub onward : {A B : Type 0} → Read A → (A → List ℕ → Read B) → Read B
 onward (got a r) k = k a r
 onward (refused c) k = refused c
+
+-- nothing is refused
+abbrev pub accepted : {A : Type 0} → Read A → Bool
+accepted (got a r) = true
+accepted (refused x) = false

@@ -37,21 +37,36 @@ pub const BEFORE_GROUPS: usize = 4;
 // The most fields that a call has: those of an opening.
 pub const MOST_FIELDS: usize = BEFORE_GROUPS + limits::DELTAS as usize;
 
-// How many fields a kind has, from kind 0 on.
-const FIELDS: [usize; 1 + KINDS as usize] = [0, MOST_FIELDS, 5, 2, 3, 4, 3, 2];
-
 pub fn kind_ok(kind: u64) -> bool
     ensures { λ r. ⌜ r ≡ isKind kind ⌝ }
 {
     (1 <= kind) & (kind <= KINDS)
 }
 
+// How many fields a kind has.
 pub fn fields_of(kind: u64) -> usize
     ensures { λ r. ⌜ r ≡ fieldsOf kind ⌝ }
 {
-    if kind <= KINDS {
-        let k = kind as usize;
-        return FIELDS[k];
+    if kind == OPENING {
+        return MOST_FIELDS;
+    }
+    if kind == ACTIVATION {
+        return 5;
+    }
+    if kind == DEACTIVATION {
+        return 2;
+    }
+    if kind == SUBMISSION {
+        return 3;
+    }
+    if kind == NOTICE {
+        return 4;
+    }
+    if kind == ASSIGNMENT {
+        return 3;
+    }
+    if kind == SETTLEMENT {
+        return 2;
     }
     0
 }

@@ -5,6 +5,7 @@ use crate::NumberRead;
 use crate::Passed;
 use crate::call;
 use crate::number;
+use crate::pass;
 use quantity::limits;
 ghost use mathlib.Core.Path.{_≡_};
 ghost use Prim.Native.Nat.{_≤_};
@@ -13,6 +14,9 @@ ghost use Rattle.quantity.specs.Limits.{mostQuarters};
 ghost use Rattle.message.specs.Call.{tailIn, kindIn, parse};
 ghost use Rattle.message.specs.File.{verdictOf};
 ghost use Rattle.message.specs.Offset.{passedOf};
+
+// A kind of one byte and the fields of a call take fewer bytes than this.
+const ROOMY: usize = 1 + pass::ROOMY * call::MOST_FIELDS;
 
 // What follows the fields of a kind.
 fn pass_tail(file: &[u8], at: usize, kind: u64) -> Passed
@@ -23,7 +27,7 @@ fn pass_tail(file: &[u8], at: usize, kind: u64) -> Passed
         return Passed::To(at);
     }
     match call::read_count(file, at, limits::QUARTERS as usize) {
-        NumberRead::Number { value, next } => number::pass_numbers(file, next, value as usize),
+        NumberRead::Number { value, next } => pass::pass_numbers(file, next, value as usize),
         NumberRead::Refused(cause) => Passed::Refused(cause),
     }
 }
@@ -36,19 +40,37 @@ fn pass_kind(file: &[u8], kind: u64, from: usize) -> Passed
     if !call::kind_ok(kind) {
         return Passed::Refused(FileCause::BadKind);
     }
-    match number::pass_numbers(file, from, call::fields_of(kind)) {
+    match pass::pass_near(file, from, call::fields_of(kind)) {
         Passed::To(after) => pass_tail(file, after, kind),
         Passed::Refused(cause) => Passed::Refused(cause),
     }
 }
 
-// The offset behind the call at an offset.
-fn pass_call(file: &[u8], at: usize) -> Passed
+// The offset behind the call at an offset, whatever stands there.
+fn pass_any(file: &[u8], at: usize) -> Passed
     ensures { λ r. ⌜ r ≡ passedOf (length (now (file .entry))) (parse mostQuarters (drop at (now (file .entry)))) ⌝ }
 {
     match number::read_number(file, at) {
         NumberRead::Number { value, next } => pass_kind(file, value, next),
         NumberRead::Refused(cause) => Passed::Refused(cause),
+    }
+}
+
+// The same, with no call for the kind and short fields where the file goes on for some bytes.
+fn pass_call(file: &[u8], at: usize) -> Passed
+    requires { ⌜ at ≤ length (now file) ⌝ }
+    ensures { λ r. ⌜ r ≡ passedOf (length (now (file .entry))) (parse mostQuarters (drop at (now (file .entry)))) ⌝ }
+{
+    if file.len() - at < ROOMY {
+        return pass_any(file, at);
+    }
+    let kind = number::wide(file[at]);
+    if !call::kind_ok(kind) {
+        return pass_any(file, at);
+    }
+    match pass::pass_inside(file, at + 1, call::fields_of(kind)) {
+        Passed::To(after) => pass_tail(file, after, kind),
+        Passed::Refused(cause) => Passed::Refused(cause),
     }
 }
 

@@ -4,6 +4,7 @@ pub mod cause;
 pub mod energy;
 pub mod file;
 pub mod number;
+pub mod pass;
 
 use quantity::Day;
 use quantity::PointNo;
@@ -29,10 +30,28 @@ pub enum NumberRead {
     Refused(FileCause),
 }
 
+// A number that is known to stand in the file, and the offset behind it.
+pub struct Known {
+    pub value: u64,
+    pub next: usize,
+}
+
 // The offset behind what was passed over.
 pub enum Passed {
     To(usize),
     Refused(FileCause),
+}
+
+// A block of bytes: whether no byte of it makes a number that is refused, and how many have their top bit set.
+pub struct Block {
+    pub sound: bool,
+    pub more: u8,
+}
+
+// How many numbers were passed over, and the offset behind them.
+pub struct Reached {
+    pub numbers: usize,
+    pub at: usize,
 }
 
 // The verdict on a whole file: its length, or the first refusal with the offset of the refused call.

@@ -8,10 +8,11 @@ use native.Mathlib.Numerals.{add-one}
 use lib.ListN.{length, drop, take, set, replicate, length-set, length-map, take-append-drop}
 use lib.Seq.{take-suc-set, drop-set-lt, drop-drop}
 use Rattle.quantity.specs.Word.{word}
-use Rattle.message.specs.Number.{numbersIn}
+use Rattle.message.specs.Read.{Read, got, refused, accepted}
+use Rattle.message.specs.Number.{decode, numbersIn}
 use Rattle.message.specs.Energy.{received}
 use Rattle.message.specs.Offset.{numberAt}
-use Rattle.reader.specs.Reader.{padded, fieldsRead, listOf, accepted, filled}
+use Rattle.reader.specs.Reader.{padded, fieldsRead, listOf, filled}
 use Rattle.message.specs.Call.{mostFields}
 use Rattle.message.specs.declared.FileCause.{FileCause}
 use Rattle.message.specs.declared.NumberRead.the-variants.{Number, Refused as NoNumber}
@@ -96,6 +97,12 @@ module _ {s : List ℕ} {at n : ℕ} {series₀ series : List ℕ} {j i : ℕ} (
       rw (done (w .pass) h)
       (sym (take-append-drop i series) ∙ ap₂ (λ (x y : List ℕ). x ++ y) (w .front) (w .back ∙ ap (λ (k : ℕ). drop k series₀) same))
 
-  -- numbers that are there are not refused
-  pub no-stop : {X : Type 0} {x : FileCause} → i < n → accepted (numbersIn n (drop at s)) ≡ true → numberAt s j ≡ NoNumber x → X
-  no-stop h a e = absurd (false≢true (sym (ap accepted (stopped (w .pass) h e)) ∙ a))
+  -- of numbers that are there the next one is there
+  pub known-next : i < n → accepted (numbersIn n (drop at s)) ≡ true → accepted (decode (drop j s)) ≡ true
+  known-next h a = go (decode (drop j s)) refl
+    where
+      go : (d : Read ℕ) → decode (drop j s) ≡ d → accepted (decode (drop j s)) ≡ true
+      go (got v r) q = rw q
+      go (refused x) q =
+          let none : numberAt s j ≡ NoNumber x = rw q in
+          absurd (false≢true (sym (ap accepted (stopped (w .pass) h none)) ∙ a))

@@ -8,13 +8,13 @@ use borrow.Author.Tests.{eq-eqb, ne-eqb}
 use lib.IntN.{ℤ}
 use lib.ListN.{length, drop, length-map}
 use lib.Seq.{drop-length}
-use Rattle.message.specs.Read.{Read, got, refused}
+use Rattle.message.specs.Read.{Read, got, refused, accepted}
 use Rattle.message.specs.Number.{numbersIn}
 use Rattle.message.specs.Energy.{received}
 use Rattle.message.specs.Call.{Sent, submission, fieldsOf, isKind, countIn, seriesIn, tailIn, kindIn, parse}
 use Rattle.message.specs.Named.{callOf, groupsOf}
 use Rattle.message.specs.Offset.{itself, numberOf, numberAt, passedOf}
-use Rattle.reader.specs.Reader.{padded, fieldsRead, without, readAs, readingOf, readAt, listOf, energiesOf, accepted, filled, seriesAfter}
+use Rattle.reader.specs.Reader.{padded, fieldsRead, without, readAs, readingOf, readAt, listOf, energiesOf, filled, seriesAfter}
 use Rattle.message.specs.declared.FileCause.{FileCause}
 use Rattle.message.specs.declared.FileCause.the-variants.{BadKind}
 use Rattle.message.specs.declared.NumberRead.{NumberRead}

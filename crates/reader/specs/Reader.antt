@@ -1,6 +1,6 @@
 -- What the reader answers at an offset of a file, and what it leaves in the series buffer.
 use Prim.Native.Nat.{ℕ, _-_}
-use mathlib.Core.Bool.{Bool, true, false, cond}
+use mathlib.Core.Bool.{cond}
 use mathlib.Core.List.{List, [], _++_, map}
 use lib.Dec.{eqb}
 use lib.IntN.{ℤ}
@@ -55,11 +55,6 @@ listOf (refused x) = []
 abbrev pub energiesOf : Read Sent → List ℤ
 energiesOf (got c r) = c .energies
 energiesOf (refused x) = []
-
--- nothing is refused
-abbrev pub accepted : {A : Type 0} → Read A → Bool
-accepted (got a r) = true
-accepted (refused x) = false
 
 -- "an accepted submission fills the first places with its energies, the others stay"
 abbrev pub filled : List ℤ → (series : List ℕ) → List ℕ

@@ -8,18 +8,20 @@ use message::call;
 use message::call::MOST_FIELDS;
 use message::energy;
 use message::number;
+use message::pass;
 use quantity::limits::DELTAS;
 ghost use mathlib.Core.Path.{_≡_};
 ghost use mathlib.Core.Bool.{true};
 ghost use mathlib.Core.List.{map};
 ghost use Prim.Native.Nat.{_≤_};
 ghost use lib.ListN.{length, drop};
+ghost use Rattle.message.specs.Read.{accepted};
 ghost use Rattle.message.specs.Number.{numbersIn};
 ghost use Rattle.message.specs.Energy.{received};
 ghost use Rattle.message.specs.Call.{mostFields, seriesIn, tailIn, kindIn};
 ghost use Rattle.message.specs.Named.{callOf, groupsOf};
 ghost use Rattle.message.specs.Offset.{numberOf};
-ghost use Rattle.reader.specs.Reader.{fieldsRead, without, readAs, readingOf, readAt, listOf, energiesOf, accepted, filled, seriesAfter};
+ghost use Rattle.reader.specs.Reader.{fieldsRead, without, readAs, readingOf, readAt, listOf, energiesOf, filled, seriesAfter};
 
 // Fields that were passed, with 0 behind them.
 pub struct FieldsRead {
@@ -87,21 +89,15 @@ fn fill_series(file: &[u8], at: usize, n: usize, series: &mut [u64])
     let mut j = at;
     let mut i = 0;
     while i < n {
-        match number::read_number(file, j) {
-            NumberRead::Number { value, next } => {
-                let energy = energy::received_of(value);
-                series[i] = energy.0;
-                j = next;
-            }
-            NumberRead::Refused(_) => {
-                return;
-            }
-        }
+        let known = number::known_number(file, j);
+        let energy = energy::received_of(known.value);
+        series[i] = energy.0;
+        j = known.next;
         i += 1;
     }
 }
 
-// A submission's count and energies; all are checked before the first is stored.
+// A submission's count and energies: all are checked before the first is stored, and then decoded once.
 fn read_series(file: &[u8], at: usize, series: &mut [u64]) -> NumberRead
     ensures { λ r. ⌜ (r ≡ numberOf length (length (now (file .entry))) (seriesIn (length (now (series .entry))) (drop at (now (file .entry)))))
         × (now (series .exit) ≡ filled (listOf (seriesIn (length (now (series .entry))) (drop at (now (file .entry))))) (now (series .entry))) ⌝ }
@@ -109,7 +105,7 @@ fn read_series(file: &[u8], at: usize, series: &mut [u64]) -> NumberRead
     match call::read_count(file, at, series.len()) {
         NumberRead::Number { value, next } => {
             let n = value as usize;
-            match number::pass_numbers(file, next, n) {
+            match pass::pass_numbers(file, next, n) {
                 Passed::To(end) => {
                     fill_series(file, next, n, series);
                     NumberRead::Number { value, next: end }

@@ -15,14 +15,14 @@ returns c = kind-bad (c .before .before .before .args .file .now) (c .before .be
 fields-of-requires : tie.Need-fields-of-requires
 fields-of-requires c κs = search needs
 
-pass-numbers-requires : tie.Need-pass-numbers-requires
-pass-numbers-requires c κs = search needs
+pass-near-requires : tie.Need-pass-near-requires
+pass-near-requires c κs = search needs
 
 enum-known-after : tie.Need-enum-known-after
 enum-known-after c = search needs
 
 pass-tail-requires : tie.Need-pass-tail-requires
-pass-tail-requires c κs = fields-placed (c .before .before .before .before .before .before .before .before .args .file .now) (c .before .before .before .before .before .before .before .before .args .from) (c .before .before .before .before .before .before .before .before .args .kind) (sym (c .before .before .before .before .before .before .kind-ok .ensures) ∙ not-false _ (c .before .before .before .before .before .if1 .left)) (c .before .before .before .before .fields-of .ensures) (c .before .before .before .before .before .before .before .before .pre) (sym (c .before .before .before .pass-numbers .ensures) ∙ c .before .after .given .1) .within
+pass-tail-requires c κs = fields-placed (c .before .before .before .before .before .before .before .before .args .file .now) (c .before .before .before .before .before .before .before .before .args .from) (c .before .before .before .before .before .before .before .before .args .kind) (sym (c .before .before .before .before .before .before .kind-ok .ensures) ∙ not-false _ (c .before .before .before .before .before .if1 .left)) (c .before .before .before .before .fields-of .ensures) (c .before .before .before .before .before .before .before .before .pre) (sym (c .before .before .before .pass-near .ensures) ∙ c .before .after .given .1) .within
 
 enum-known-cause : tie.Need-enum-known-cause
 enum-known-cause c = search needs
@@ -30,10 +30,10 @@ enum-known-cause c = search needs
 returns-2 : tie.Need-returns-2
 returns-2 c =
     let known = sym (c .before .before .before .before .before .before .before .kind-ok .ensures) ∙ not-false _ (c .before .before .before .before .before .before .if1 .left) in
-    kind-goes (c .before .before .before .before .before .before .before .before .before .args .file .now) (c .before .before .before .before .before .before .before .before .before .args .from) (c .before .before .before .before .before .before .before .before .before .args .kind) known (c .before .before .before .before .before .fields-of .ensures) (fields-placed (c .before .before .before .before .before .before .before .before .before .args .file .now) (c .before .before .before .before .before .before .before .before .before .args .from) (c .before .before .before .before .before .before .before .before .before .args .kind) known (c .before .before .before .before .before .fields-of .ensures) (c .before .before .before .before .before .before .before .before .before .pre) (sym (c .before .before .before .before .pass-numbers .ensures) ∙ c .before .before .after .given .1)) (c .pass-tail .ensures)
+    kind-goes (c .before .before .before .before .before .before .before .before .before .args .file .now) (c .before .before .before .before .before .before .before .before .before .args .from) (c .before .before .before .before .before .before .before .before .before .args .kind) known (c .before .before .before .before .before .fields-of .ensures) (fields-placed (c .before .before .before .before .before .before .before .before .before .args .file .now) (c .before .before .before .before .before .before .before .before .before .args .from) (c .before .before .before .before .before .before .before .before .before .args .kind) known (c .before .before .before .before .before .fields-of .ensures) (c .before .before .before .before .before .before .before .before .before .pre) (sym (c .before .before .before .before .pass-near .ensures) ∙ c .before .before .after .given .1)) (c .pass-tail .ensures)
 
 returns-3 : tie.Need-returns-3
-returns-3 c = kind-not (c .before .before .before .before .before .before .before .before .args .file .now) (c .before .before .before .before .before .before .before .before .args .from) (c .before .before .before .before .before .before .before .before .args .kind) (sym (c .before .before .before .before .before .before .kind-ok .ensures) ∙ not-false _ (c .before .before .before .before .before .if1 .left)) (c .before .before .before .before .fields-of .ensures) (sym (c .before .before .before .pass-numbers .ensures) ∙ c .before .cause .given .1)
+returns-3 c = kind-not (c .before .before .before .before .before .before .before .before .args .file .now) (c .before .before .before .before .before .before .before .before .args .from) (c .before .before .before .before .before .before .before .before .args .kind) (sym (c .before .before .before .before .before .before .kind-ok .ensures) ∙ not-false _ (c .before .before .before .before .before .if1 .left)) (c .before .before .before .before .fields-of .ensures) (sym (c .before .before .before .pass-near .ensures) ∙ c .before .cause .given .1)
 
 pub pass-kind-spec : {M : Type 1} → statement M
 pass-kind-spec =
@@ -42,7 +42,7 @@ pass-kind-spec =
     kind-ok-requires
     returns
     fields-of-requires
-    pass-numbers-requires
+    pass-near-requires
     enum-known-after
     pass-tail-requires
     enum-known-cause

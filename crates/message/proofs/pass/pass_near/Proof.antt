@@ -1,11 +1,11 @@
--- `pass_from` meets its contract: as many numbers as were passed. Assumes nothing.
+-- `pass_near` meets its contract: as many numbers as were passed. Assumes nothing.
 use borrow.Author.Needs.{needs}
 use Prim.Native.Nat.{ℕ, _-_}
 use mathlib.Core.Path.{sym, _∙_}
 use mathlib.Core.List.{List, []}
 use Rattle.message.proofs.Passing.{Passing, started, one-more, passed, not-passed}
-use Rattle.message.proofs.number.pass_from.Statement.{statement}
-use Rattle.message.proofs.number.pass_from.Tie as tie
+use Rattle.message.proofs.pass.pass_near.Statement.{statement}
+use Rattle.message.proofs.pass.pass_near.Tie as tie
 
 abbrev Inv-loop : tie.InvT-loop
 Inv-loop file at n j₀ i₀ j i = (vs : List ℕ) × Passing file at n j i vs
@@ -40,8 +40,8 @@ loop-again c = (_, one-more (c .before .before .before .before .before .loop .in
 returns-2 : tie.Need-returns-2 Inv-loop μ-loop
 returns-2 c = passed (c .before .loop .inv .1) (c .loop-test .left)
 
-pub pass-from-spec : {M : Type 1} → statement M
-pass-from-spec =
+pub pass-near-spec : {M : Type 1} → statement M
+pass-near-spec =
     tie.close
     (tie.spec
     Inv-loop
