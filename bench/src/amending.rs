@@ -1,12 +1,14 @@
 //! The amending desk: it amends its state, the book and the log through `&mut`, and allocates nothing.
 //!
-//! Each call makes the checks of the table in their order. The first one, the limits of the state, stands in two forms:
+//! Each call makes the checks of the table in their order. The first one, the limits of the state, stands in three forms:
 //!
 //! - tested at each call (`replay`), as document 01 asks of a desk that is handed its state from outside: one walk over the
 //!   points and one over the versions held, which find out all else that a call asks of them;
 //! - not tested at all (`replay_untested`), as a careful engineer would have it here: the desk is made in `replay`, nobody
-//!   else has its state, and no accepted call leaves the limits, so that only the missing opening is left of cause 1. A call
-//!   then goes through the versions of its own point alone.
+//!   else has its state, and no accepted call leaves the limits, so that only the missing opening is left of cause 1. A table
+//!   is walked only where the call asks for it;
+//! - not tested, and the versions of a point in a chain (`replay_chained`), so that a call goes through those of its own point
+//!   alone.
 
 use crate::buffers::Buffers;
 use crate::cause::{
@@ -144,8 +146,13 @@ struct Look {
     second: Option<Pick>,
 }
 
+/// How a call looks at the tables.
+const TESTED: u8 = 0;
+const UNTESTED: u8 = 1;
+const CHAINED: u8 = 2;
+
 /// The desk's state, whose limits are tested at each call or not at all.
-struct Desk<const TESTED: bool> {
+struct Desk<const LOOK: u8> {
     opening: Opening,
     day: u64,
     groups: [u64; DELTAS],
@@ -158,7 +165,7 @@ struct Desk<const TESTED: bool> {
     versions: [Version; VERSIONS],
 }
 
-impl<const TESTED: bool> Desk<TESTED> {
+impl<const LOOK: u8> Desk<LOOK> {
     fn opened(opening: Opening, groups: [u64; DELTAS]) -> Self {
         Desk {
             opening,
@@ -202,21 +209,35 @@ impl<const TESTED: bool> Desk<TESTED> {
 
     /// What the call asks of the two tables, with the limits of the state where they are tested.
     fn look(&self, point: u64, number: u64, series: (u64, u64, u64)) -> Result<Look, Cause> {
-        if TESTED {
-            self.tested(point, number, series)
-        } else {
-            refuse_if(self.opening.quarters == 0, Cause::NotOpen)?;
-            Ok(self.untested(point, number, series))
+        if LOOK == TESTED {
+            return self.tested(point, number, series);
         }
-    }
-
-    /// The points are looked at for a series alone, and of the versions those of the point.
-    fn untested(&self, point: u64, number: u64, series: (u64, u64, u64)) -> Look {
+        refuse_if(self.opening.quarters == 0, Cause::NotOpen)?;
         let mut look = Look::NOTHING;
         if series.0 != 0 {
             let mut active = self.points.iter().flatten();
             look.taken = active.any(|active| active.series() == series);
+        } else if LOOK == UNTESTED {
+            self.walk(point, number, &mut look);
+        } else {
+            self.go_back(point, number, &mut look);
         }
+        Ok(look)
+    }
+
+    /// All versions are walked over for those of the point.
+    fn walk(&self, point: u64, number: u64, look: &mut Look) {
+        if is_point(point) {
+            for (at, version) in self.versions[..self.count].iter().enumerate() {
+                if u64::from(version.point) == point {
+                    look.meet(at, version, number);
+                }
+            }
+        }
+    }
+
+    /// The versions of the point, from the last one back.
+    fn go_back(&self, point: u64, number: u64, look: &mut Look) {
         let mut next = None;
         if is_point(point) {
             next = self.last[point as usize - 1];
@@ -226,7 +247,6 @@ impl<const TESTED: bool> Desk<TESTED> {
             look.meet(at.into(), version, number);
             next = version.before;
         }
-        look
     }
 
     fn tested(&self, point: u64, number: u64, series: (u64, u64, u64)) -> Result<Look, Cause> {
@@ -578,7 +598,7 @@ impl Look {
     }
 }
 
-impl<const TESTED: bool> replay::Desk for Desk<TESTED> {
+impl<const LOOK: u8> replay::Desk for Desk<LOOK> {
     fn quarters(&self) -> u64 {
         self.opening.quarters
     }
@@ -594,10 +614,15 @@ impl<const TESTED: bool> replay::Desk for Desk<TESTED> {
 
 /// A whole message file through a fresh desk that tests cause 1 at each call: 0, or the number of the refusal that ended it.
 pub fn replay(file: &[u8], buffers: &mut Buffers) -> u64 {
-    replay::replay(Desk::<true>::fresh(), file, buffers)
+    replay::replay(Desk::<TESTED>::fresh(), file, buffers)
 }
 
 /// The same through a desk that tests of cause 1 the missing opening alone.
 pub fn replay_untested(file: &[u8], buffers: &mut Buffers) -> u64 {
-    replay::replay(Desk::<false>::fresh(), file, buffers)
+    replay::replay(Desk::<UNTESTED>::fresh(), file, buffers)
+}
+
+/// The same with the versions of each point in a chain.
+pub fn replay_chained(file: &[u8], buffers: &mut Buffers) -> u64 {
+    replay::replay(Desk::<CHAINED>::fresh(), file, buffers)
 }

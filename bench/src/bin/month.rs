@@ -1,13 +1,14 @@
-//! A month through four desks, each fed one message file: the host's entry (linked), the amending desk in Rust that tests
-//! cause 1 at each call (amending) and the one that does not test it at all (untested), and the plain desk in Rust (plain).
+//! A month through five desks, each fed one message file: the host's entry (linked), the amending desk in Rust that tests
+//! cause 1 at each call (amending), the one that does not test it at all (untested) and the one that also has each point's
+//! versions in a chain (chained), and the plain desk in Rust (plain).
 //!
-//!     month                             compares the four, then times whole months
+//!     month                             compares the five, then times whole months
 //!     month growth                      times a submission by the versions held
 //!     month stack DESK                  the stack of one replay
 //!     month DESK month QUARTERS         one replay of a month, for a count of its instructions
 //!     month DESK growth QUARTERS HELD   one replay of so many submissions
 //!
-//! A desk is linked, amending, untested or plain, and in the last two forms also none: all but the replay is done.
+//! A desk is linked, amending, untested, chained or plain, and in the last two forms also none: all but the replay is done.
 //!
 //! All desks are lent the same buffers by turns. They are not cleared between two replays, and were written before the
 //! first. Times are processor times of the one thread.
@@ -21,10 +22,11 @@ use std::env;
 use std::hint::black_box;
 use std::process::exit;
 
-const DESKS: [Desk; 4] = [
+const DESKS: [Desk; 5] = [
     ("linked", bench_linked),
     ("amending", bench_amending),
     ("untested", bench_untested),
+    ("chained", bench_chained),
     ("plain", bench_plain),
 ];
 
@@ -56,6 +58,13 @@ pub fn bench_amending(file: &[u8], buffers: &mut Buffers) -> u64 {
 #[inline(never)]
 pub fn bench_untested(file: &[u8], buffers: &mut Buffers) -> u64 {
     amending::replay_untested(file, buffers)
+}
+
+/// The amending desk with the versions of each point in a chain.
+#[no_mangle]
+#[inline(never)]
+pub fn bench_chained(file: &[u8], buffers: &mut Buffers) -> u64 {
+    amending::replay_chained(file, buffers)
 }
 
 /// The plain desk, called as the host's entry is.
@@ -99,7 +108,7 @@ fn compare_any() {
     }
     let given = (0..).zip(answers).filter(|&(_, count)| count > 0);
     let given: Vec<String> = given.map(|(n, count)| format!("{n}: {count}")).collect();
-    println!("The four desks are the same in answers, report, log, series, values and book on {COMPARED} files of any calls,");
+    println!("The five desks are the same in answers, report, log, series, values and book on {COMPARED} files of any calls,");
     println!("with these answers: {};", given.join(", "));
     println!("and on each month below, where every call is accepted.");
     println!();
@@ -123,7 +132,7 @@ fn desks(round: usize, plain_rounds: usize) -> &'static [Desk] {
     if round < plain_rounds {
         &DESKS
     } else {
-        &DESKS[..3]
+        &DESKS[..4]
     }
 }
 
@@ -137,28 +146,30 @@ fn time(replay: Replay, month: &Month, buffers: &mut Buffers) -> f64 {
 /// Times whole months.
 fn months() {
     compare_any();
-    println!("quarters  calls   file MB  linked calls/s  amending calls/s  untested calls/s  plain calls/s (rounds)  linked : amending  linked : untested  plain : linked");
+    println!("quarters  calls   file MB  linked calls/s  amending calls/s  untested calls/s  chained calls/s  plain calls/s (rounds)  linked : amending  linked : untested  linked : chained  plain : linked");
     for (quarters, plain_rounds) in MONTHS {
         let month = month(quarters);
         let mut buffers = compare_month(&month);
-        let mut best = [f64::INFINITY; 4];
+        let mut best = [f64::INFINITY; 5];
         for round in 0..ROUNDS {
             for (best, (_, replay)) in best.iter_mut().zip(desks(round, plain_rounds)) {
                 *best = best.min(time(*replay, &month, &mut buffers));
             }
         }
-        let [linked, amending, untested, plain] = best;
+        let [linked, amending, untested, chained, plain] = best;
         let rate = |time: f64| 1e9 * month.calls as f64 / time;
         println!(
-            "{quarters:8} {:6} {:9.2} {:15.0} {:17.0} {:17.0} {:14.0} {plain_rounds:8} {:18.2} {:18.2} {:15.1}",
+            "{quarters:8} {:6} {:9.2} {:15.0} {:17.0} {:17.0} {:16.0} {:14.0} {plain_rounds:8} {:18.2} {:18.2} {:17.2} {:15.1}",
             month.calls,
             month.file.len() as f64 / 1e6,
             rate(linked),
             rate(amending),
             rate(untested),
+            rate(chained),
             rate(plain),
             linked / amending,
             linked / untested,
+            linked / chained,
             plain / linked
         );
     }
@@ -178,26 +189,27 @@ fn median(mut numbers: Vec<f64>) -> f64 {
 fn submission(quarters: usize, (from, to): (usize, usize), rounds: usize, plain_rounds: usize) {
     let months = [growth(quarters, from), growth(quarters, to)];
     let mut buffers = compare_month(&months[1]);
-    let mut times: [Vec<f64>; 4] = Default::default();
+    let mut times: [Vec<f64>; 5] = Default::default();
     for round in 0..rounds {
         for (times, (_, replay)) in times.iter_mut().zip(desks(round, plain_rounds)) {
             let [without, with] = [0, 1].map(|i| time(*replay, &months[i], &mut buffers));
             times.push((with - without) / (to - from) as f64);
         }
     }
-    let [linked, amending, untested, plain] = times.map(median);
+    let [linked, amending, untested, chained, plain] = times.map(median);
     println!(
-        "{quarters:8} {:>14} {linked:10.0} {amending:12.0} {untested:12.0} {plain:9.0} {:18.2} {:18.2} {:15.1}   {rounds}, {plain_rounds}",
+        "{quarters:8} {:>14} {linked:10.0} {amending:12.0} {untested:12.0} {chained:11.0} {plain:9.0} {:18.2} {:18.2} {:17.2} {:15.1}   {rounds}, {plain_rounds}",
         format!("{from} to {}", to - 1),
         linked / amending,
         linked / untested,
+        linked / chained,
         plain / linked
     );
 }
 
 /// Times a submission by the versions held.
 fn growing() {
-    println!("quarters  versions held  linked ns  amending ns  untested ns  plain ns  linked : amending  linked : untested  plain : linked   rounds");
+    println!("quarters  versions held  linked ns  amending ns  untested ns  chained ns  plain ns  linked : amending  linked : untested  linked : chained  plain : linked   rounds");
     for window in WINDOWS {
         submission(96, window, 301, 101);
     }
@@ -220,7 +232,7 @@ fn stack_of(name: &str, replay: Replay) {
 
 fn desk(name: &str) -> Replay {
     let desk = DESKS.iter().find(|desk| desk.0 == name);
-    desk.unwrap_or_else(|| stop("a desk is linked, amending, untested or plain"))
+    desk.unwrap_or_else(|| stop("a desk is linked, amending, untested, chained or plain"))
         .1
 }
 
