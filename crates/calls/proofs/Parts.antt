@@ -17,9 +17,9 @@ use Rattle.state.specs.Valid.{Sound}
 use Rattle.state.specs.declared.Desk.{Desk}
 use Rattle.state.proofs.Bounds.{sound}
 use Rattle.model.specs.Call.{shows, Stores, Lengths, telling, lengthsOf, answerNumber, causeNumber}
+use Rattle.model.proofs.CauseNumbers.{number-in}
 use Rattle.model.specs.Step.{Outcome, refusalBy, step}
 use Rattle.model.specs.declared.Cause.{Cause}
-use Rattle.model.specs.declared.Cause.the-variants.{NotOpen, WrongLength, BadField, OpenAgain, BadOpening, PastDay, AfterCorrection, AfterClearing, PointActive, SameSeries, NotActive, HasVersion, TooEarly, VersionPresent, VersionBelow, NoVersion, NotCheckData, NoRow, NoLogRow, SettleTooEarly, AlreadySettled, FirstRunOpen}
 use Rattle.model.specs.declared.Ruling.{Ruling}
 use Rattle.model.specs.declared.Ruling.the-variants.{Fine, Refuse}
 use Rattle.checks.specs.Stepped.{lent}
@@ -59,31 +59,6 @@ showable d run group n e =
 pub row-ends : {d : Desk} {run group size k start : ℕ} → Showable d run group size → start ≡ rowStart (d .frame .opening .quarters) run k → k < runRows → start + d .frame .opening .quarters ≤ size
 row-ends {d} {run} {group} {size} {k} {start} s e h = omega (arith, e, row-within (d .frame .opening .quarters) run k (s .low) (s .high) h, s .whole)
 
--- no cause has the number 0
-some-number : (x : Cause) → 1 ≤ causeNumber x
-some-number NotOpen = omega arith
-some-number WrongLength = omega arith
-some-number BadField = omega arith
-some-number OpenAgain = omega arith
-some-number BadOpening = omega arith
-some-number PastDay = omega arith
-some-number AfterCorrection = omega arith
-some-number AfterClearing = omega arith
-some-number PointActive = omega arith
-some-number SameSeries = omega arith
-some-number NotActive = omega arith
-some-number HasVersion = omega arith
-some-number TooEarly = omega arith
-some-number VersionPresent = omega arith
-some-number VersionBelow = omega arith
-some-number NoVersion = omega arith
-some-number NotCheckData = omega arith
-some-number NoRow = omega arith
-some-number NoLogRow = omega arith
-some-number SettleTooEarly = omega arith
-some-number AlreadySettled = omega arith
-some-number FirstRunOpen = omega arith
-
 -- "the part is empty exactly when the number is not 0"
 pub empty-exactly : (d : Desk) (run group : ℕ) (s : Stores)
     → (step d (lent (shows run group) s) .part ≡ []) ↔ (answerNumber (step d (lent (shows run group) s) .answer) ≡ 0 → ⊥)
@@ -102,5 +77,5 @@ empty-exactly d run group s = go (refusalBy d (telling (lengthsOf s) (shows run 
         let full : b ≡ [] → ⊥ = λ z. let y : length b ≡ 0 = ap length z in omega (arith, l, m, y) in
         rw (granted d (shows run group) s e refl) (λ z _. full z, λ f. absurd (f refl))
     go (Refuse x) e =
-        let n = some-number x in
+        let n = number-in x .0 in
         rw (refused d (shows run group) s e refl) (λ _ z. omega (arith, n, z), λ _. refl)

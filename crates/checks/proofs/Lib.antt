@@ -1,4 +1,5 @@
 pub mod Deciding
 pub mod Found
 pub mod Lengths
+pub mod PickSteps
 pub mod Untaken

@@ -1,4 +1,5 @@
 pub mod Lent
 pub mod Look
+pub mod Picks
 pub mod Stepped
 pub mod Survey

@@ -3,6 +3,7 @@ pub mod decisions;
 pub mod limits;
 pub mod looks;
 pub mod numbers;
+pub mod picks;
 pub mod points;
 pub mod rules;
 pub mod stores;
@@ -27,6 +28,12 @@ pub struct Survey {
 pub struct Tested {
     pub fit: bool,
     pub survey: Survey,
+}
+
+// Run 1's selection of a point, and run 2's own.
+pub struct PointPicks {
+    pub first: Selection,
+    pub second: Selection,
 }
 
 // What one walk over the points finds: whether each record is within its limits, and whether an active point has the kind, area and

@@ -69,6 +69,7 @@ pub fn since_of(s: PointState) -> Day
     }
 }
 
+// The partner is asked first: it tells most points apart.
 pub fn is_series(s: PointState, kind: u64, area: u64, partner: u64) -> bool
     ensures { λ r. ⌜ r ≡ isSeries kind area partner s ⌝ }
 {
@@ -79,7 +80,12 @@ pub fn is_series(s: PointState, kind: u64, area: u64, partner: u64) -> bool
             kind: k,
             area: a,
             partner: b,
-        } => { (k.0 as u64 == kind) & ((a.0 as u64 == area) & (b.0 as u64 == partner)) }
+        } => {
+            if b.0 as u64 != partner {
+                return false;
+            }
+            (k.0 as u64 == kind) & (a.0 as u64 == area)
+        }
     }
 }
 

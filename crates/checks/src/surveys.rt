@@ -66,7 +66,7 @@ fn surveyed(s: Survey, at: u64, v: VersionRecord, point: PointNo, version: Versi
 }
 
 // A count past the table's end means the whole table.
-fn records_in(count: u64) -> usize
+pub fn records_in(count: u64) -> usize
     ensures { λ r. ⌜ r ≡ cond (ltb count mostVersions) count mostVersions ⌝ }
 {
     if count < VERSIONS {

@@ -14,10 +14,13 @@ use Rattle.replay.specs.Replay.{over}
 use Rattle.state.specs.declared.PointState.{PointState}
 use Rattle.state.specs.declared.PointState.the-variants.{Free, Active}
 use Rattle.state.specs.Point.{pointAt}
-use Rattle.state.specs.Selection.{versionOf, selected}
+use Rattle.state.specs.Selection.{versionOf, inRun}
 use Rattle.state.specs.Version.{recordAt, emptyVersion}
 use Rattle.state.specs.declared.PointRecord.{PointRecord}
 use Rattle.state.specs.declared.VersionRecord.{VersionRecord}
+use Rattle.quantity.specs.Limits.{points}
+use Rattle.checks.specs.Picks.{noPicks, PicksIn}
+use Rattle.checks.specs.declared.PointPicks.{PointPicks}
 use Rattle.host.specs.Table.{rowsTo, pointPlaces, pointRow, versionPlaces, versionRow, refusals, firstRefused}
 
 -- one row more behind those that stand
@@ -55,8 +58,21 @@ point-wide : (p : PointState) (x y : ℕ) → length (pointPlaces p x y) ≡ 7
 point-wide Free x y = refl
 point-wide (Active since kind area partner) x y = refl
 
-pub row-wide : (ps : List PointRecord) (vs : List VersionRecord) (i : ℕ) → length (pointRow ps vs i) ≡ 7
-row-wide ps vs i = point-wide (pointAt ps (suc i)) (versionOf (selected 1 (suc i) vs)) (versionOf (selected 2 (suc i) vs))
+-- the same rows, place by place
+rows-same : (n : ℕ) (f g : ℕ → List ℕ) → ((i : ℕ) → i < n → f i ≡ g i) → rowsTo n f ≡ rowsTo n g
+unfolding rowsTo
+rows-same zero f g e = refl
+rows-same (suc n) f g e = rw (rows-same n f g (λ i h. e i (omega arith)), e n (omega arith))
+
+-- a point's row by the table of picks
+abbrev pub pickedRow : List PointRecord → List PointPicks → ℕ → List ℕ
+pickedRow ps t i = pointPlaces (pointAt ps (suc i)) (versionOf (inRun 1 (getD t i noPicks .first) (getD t i noPicks .second))) (versionOf (inRun 2 (getD t i noPicks .first) (getD t i noPicks .second)))
+
+pub picked-wide : (ps : List PointRecord) (t : List PointPicks) (i : ℕ) → length (pickedRow ps t i) ≡ 7
+picked-wide ps t i = point-wide (pointAt ps (suc i)) _ _
+
+pub picked-all : (ps : List PointRecord) (vs : List VersionRecord) (t : List PointPicks) → PicksIn vs t → rowsTo points (pickedRow ps t) ≡ rowsTo points (pointRow ps vs)
+picked-all ps vs t k = rows-same points (pickedRow ps t) (pointRow ps vs) (λ i h. rw (k .each i h))
 
 -- the first records of a table are those held
 module _ (vs : List VersionRecord) (n count : ℕ) (same : take n vs ≡ take count vs) where

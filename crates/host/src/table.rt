@@ -1,8 +1,8 @@
 // The desk's points and versions as numbers, and how many of its answers are refusals.
 use crate::Refusals;
 use amend::copies::copy_row;
-use checks::surveys::survey;
-use quantity::PointNo;
+use checks::PointPicks;
+use checks::picks::picks_of;
 use quantity::Version;
 use quantity::limits::POINTS;
 use quantity::limits::VERSIONS;
@@ -13,12 +13,11 @@ use state::selections::or_else;
 use state::selections::version_of;
 use state::statuses::number;
 ghost use mathlib.Core.Path.{_≡_};
-ghost use Prim.Native.Nat.{suc, _+_, _≤_, _<_};
+ghost use Prim.Native.Nat.{_+_, _≤_};
 ghost use lib.ListN.{length, take};
 ghost use Rattle.book.specs.Row.{splice};
-ghost use Rattle.quantity.specs.Limits.{points};
 ghost use Rattle.replay.specs.Replay.{over};
-ghost use Rattle.state.specs.Selection.{versionOf, selected};
+ghost use Rattle.state.specs.Selection.{versionOf, inRun};
 ghost use Rattle.host.specs.Table.{pointsPlaces, versionsPlaces, pointPlaces, pointTable, versionPlaces, versionTable, refusals, firstRefused};
 
 // How many numbers a point has.
@@ -63,22 +62,15 @@ fn point_places(state: PointState, first: Version, second: Version) -> [u64; POI
 }
 
 // A point's row, with what both runs select for it.
-fn point_row(
-    state: PointState,
-    versions: [VersionRecord; VERSIONS as usize],
-    count: u64,
-    i: u64,
-) -> [u64; POINT_NUMBERS]
-    requires { ⌜ i < points ⌝ }
-    ensures { λ r. ⌜ r ≡ pointPlaces state (versionOf (selected 1 (suc i) (take count versions))) (versionOf (selected 2 (suc i) (take count versions))) ⌝ }
+fn point_row(state: PointState, picks: PointPicks) -> [u64; POINT_NUMBERS]
+    ensures { λ r. ⌜ r ≡ pointPlaces state (versionOf (inRun 1 (picks .first) (picks .second))) (versionOf (inRun 2 (picks .first) (picks .second))) ⌝ }
 {
-    let s = survey(versions, count, PointNo(i + 1), Version(0));
-    let first = s.first;
-    let second = s.second;
+    let first = picks.first;
+    let second = picks.second;
     point_places(state, version_of(first), version_of(or_else(second, first)))
 }
 
-// Every point, seven numbers each.
+// Every point, seven numbers each. The selections of all points come from one walk over the versions.
 pub fn put_points(
     out: &mut [u64],
     points: [PointRecord; POINTS as usize],
@@ -88,11 +80,13 @@ pub fn put_points(
     requires { ⌜ pointsPlaces ≤ length (now out) ⌝ }
     ensures { λ _. ⌜ now (out .exit) ≡ over (pointTable points (take count versions)) (now (out .entry)) ⌝ }
 {
+    let table = picks_of(versions, count);
     let mut i = 0;
     while i < POINTS as usize {
         let point = points[i];
         let state = point.state;
-        let row = point_row(state, versions, count, i as u64);
+        let picks = table[i];
+        let row = point_row(state, picks);
         put_row(out, POINT_NUMBERS * i, &row);
         i += 1;
     }

@@ -1,11 +1,12 @@
--- Of each kind, which number of the file is which field of the call; and every kind of the table is a call, no other. Assumes nothing.
+-- Of each kind, how many fields it has and which number of the file is which field of the call; and every kind of the table is a call, no other.
+-- Assumes nothing.
 use Prim.Native.Nat.{ℕ, _<_}
 use mathlib.Core.Path.{_≡_, refl}
 use mathlib.Core.Bool.{true, false}
-use mathlib.Core.List.{List, _∷_}
+use mathlib.Core.List.{List, [], _∷_, map}
 use native.Mathlib.Omega.{arith}
 use borrow.Author.Tests.{ne-eqb}
-use Rattle.message.specs.Call.{isKind}
+use Rattle.message.specs.Call.{isKind, fieldsOf}
 use Rattle.message.specs.Named.{callOf, laterCallOf, groupsOf}
 use Rattle.message.specs.declared.DeskCall.{DeskCall}
 use Rattle.message.specs.declared.DeskCall.the-variants.{Open, Activate, Deactivate, Submit, Notice, Assign, Settle}
@@ -43,6 +44,11 @@ field-names =
       assignment = λ area group day l. refl;
       settlement = λ run day l. refl;
     }
+
+-- how many fields kinds 1 to 7 have: "Q, F, C, K, 17 delta groups", "point, kind, area, partner, day", "point, day", "point, version, day" before
+-- the energies, "point, version, verdict, day", "area, group, day", "run, day"
+pub field-counts : map fieldsOf (1 ∷ 2 ∷ 3 ∷ 4 ∷ 5 ∷ 6 ∷ 7 ∷ []) ≡ 21 ∷ 5 ∷ 2 ∷ 3 ∷ 4 ∷ 3 ∷ 2 ∷ []
+field-counts = refl
 
 -- a kind of the table is a call, whatever its fields
 pub known : (fields : List ℕ) (k : ℕ) → isKind k ≡ true → (d : DeskCall) × (callOf k fields ≡ Known d)

@@ -15,3 +15,5 @@ pub mod Parsers
 pub mod Passing
 pub mod Placed
 pub mod Theorems
+pub mod Pouring
+pub mod SeriesSteps

@@ -7,3 +7,4 @@ pub mod Number
 pub mod Read
 pub mod Offset
 pub mod Named
+pub mod Series

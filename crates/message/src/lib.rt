@@ -5,6 +5,7 @@ pub mod energy;
 pub mod file;
 pub mod number;
 pub mod pass;
+pub mod series;
 
 use quantity::Day;
 use quantity::PointNo;

@@ -18,7 +18,7 @@ use Rattle.model.specs.declared.Answer.the-variants.{Accepted, Refused}
 use Rattle.model.specs.declared.Cause.{Cause}
 use Rattle.model.specs.declared.Ruling.{Ruling}
 use Rattle.model.specs.declared.Ruling.the-variants.{Fine, Refuse}
-use Rattle.model.proofs.Rules.{not-refused, passed, passed-fine, first-decides, decides-first}
+use Rattle.model.proofs.Rules.{not-refused, passed, passed-fine, past, first-decides, decides-first}
 
 -- ---- each cause both ways, on a desk in any state
 
@@ -37,7 +37,7 @@ granted-fine d s (submits p n day es) x P e = not-refused x e
 granted-fine d s (notices p n y day) x P e = not-refused x e
 granted-fine d s (assigns a g day) x P e = not-refused x e
 granted-fine d s (shows r g) x P e = not-refused x e
-granted-fine d s (asks p n) x P e = status-found (held p n (versionsIn d)) x (P .1 .1 .1 .0) e
+granted-fine d s (asks p n) x P e = status-found (held p n (versionsIn d)) x (past 24 (rules (viewOf d) (lengthsOf s) (asks p n)) P) e
 granted-fine d s (settles r day) x P e = not-refused x e
 
 module _ (d : Desk) (l : Lent) where

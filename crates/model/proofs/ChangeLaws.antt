@@ -38,7 +38,7 @@ use Rattle.model.specs.Step.{lines, refusalBy, decided, step}
 use Rattle.model.specs.declared.Answer.the-variants.{Accepted}
 use Rattle.model.proofs.CauseLaws.{accepted-passed}
 use Rattle.model.proofs.Invariant.{book-is, quarters-in}
-use Rattle.model.proofs.Rules.{passed-fine}
+use Rattle.model.proofs.Rules.{passed-fine, past}
 use Rattle.model.proofs.Selections.{own-uncounted, own-unturned}
 
 -- ---- "Positive turns status 1 into 2 if day ≤ C, else 4. Negative changes no status."
@@ -52,7 +52,7 @@ notice-none w n p x y d ne = notice-negative (w .opening .clearing .0) p x y d (
 pub notice-one : (w : Worked) (n : Lengths) (p x d : ℕ) → Passed (rules (viewBy w) n (notices p x 1 d))
     → Confirms p x (confirmedStatus (w .opening .clearing .0) d) (w .versions) (after (telling n (notices p x 1 d)) w .versions)
 unfolding notCheck after fold
-notice-one w n p x d P = go (held p x (w .versions)) (P .1 .1 .1 .1 .1 .1 .1 .0) (held-right p x (w .versions))
+notice-one w n p x d P = go (held p x (w .versions)) (past 25 (rules (viewBy w) n (notices p x 1 d)) P) (held-right p x (w .versions))
   where
     go : (h : Held) → notCheck h ≡ false → HeldIn p x (w .versions) (length (w .versions)) h → Confirms p x (confirmedStatus (w .opening .clearing .0) d) (w .versions) (confirm (w .opening .clearing .0) 1 d h (w .versions))
     go Absent e q = absurd (true≢false e)

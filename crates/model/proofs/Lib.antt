@@ -3,6 +3,7 @@ pub mod Amends
 pub mod Assign
 pub mod Books
 pub mod CauseLaws
+pub mod CauseNumbers
 pub mod ChangeLaws
 pub mod Changing
 pub mod Corollaries

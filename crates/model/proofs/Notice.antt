@@ -30,6 +30,7 @@ use Rattle.model.proofs.Changing.{changed-kept, left-holds, on-own}
 use Rattle.model.proofs.Invariant.{Holds, Done, Granted, finish}
 use Rattle.model.proofs.Logs.{used-rows}
 use Rattle.model.proofs.Restating.{same-row, versioned-restated, stored-restated}
+use Rattle.model.proofs.Rules.{past}
 use Rattle.model.proofs.Selections.{noticed-restated, restated-length}
 
 -- a notice leaves the table's length
@@ -53,7 +54,7 @@ module _ (p x y e : ℕ) (d : Desk) (s : Stores) (h : List Told) (H : Holds d s 
       let c = d .frame .opening .clearing .0 in
       let found = held p x (versionsIn d) in
       let row = due (versionsIn d) turned p e in
-      let fields = not-false (noticeOk p x y e) (P .1 .1 .0) in
+      let fields = not-false (noticeOk p x y e) (past 3 (rules (viewOf d) (lengthsOf s) (notices p x y e)) P) in
       let inP = and-left (pointOk p) _ fields in
       let day = and-right (leb y 1) _ (and-right (versionOk x) _ (and-right (pointOk p) _ fields)) in
       let same = noticed-restated c p x y e (versionsIn d) in
@@ -65,7 +66,7 @@ module _ (p x y e : ℕ) (d : Desk) (s : Stores) (h : List Told) (H : Holds d s 
       (changed-kept d s h H p e (within-low 1 points p inP) (within-high 1 points p inP) day turned (s .values) (energiesOf h)
       (versioned-restated (versionsIn d) turned same (d .frame .opening) (d .points) (K .versioned))
       (stored-restated (versionsIn d) turned same (d .frame .opening .quarters) (s .values) (energiesOf h) (K .stored))
-      (K .valuesLong) (omega (arith, restated-length (versionsIn d) turned same)) (λ i _. same-row (versionsIn d) turned same i) (λ r i ne. notice-other r i c p x y e (versionsIn d) (λ z. ne (sym z))) (K .booked) (P .1 .1 .1 .1 .1 .1 .1 .1 .0))
+      (K .valuesLong) (omega (arith, restated-length (versionsIn d) turned same)) (λ i _. same-row (versionsIn d) turned same i) (λ r i ne. notice-other r i c p x y e (versionsIn d) (λ z. ne (sym z))) (K .booked) (past 17 (rules (viewOf d) (lengthsOf s) (notices p x y e)) P))
 
   done : Done d s h (notices p x y e) s
   done = record { reply = refl; holds = left-holds desk s (followed d s p e turned (s .values)) (record { call = notices p x y e; lengths = lengthsOf s } ∷ h) holds }

@@ -4,8 +4,10 @@ use mathlib.Core.Path.{_≡_, refl, sym, ap, _∙_}
 use mathlib.Core.Bool.{Bool, true, false, not, _||_, or-false}
 use mathlib.Core.List.{List, [], _∷_}
 use native.Mathlib.Omega.{arith}
+use lib.Dec.{eqb}
 use Rattle.quantity.specs.Lists.{all, fold}
 use Rattle.quantity.proofs.Tests.{and-left, and-right}
+use Rattle.model.specs.Call.{causeNumber}
 use Rattle.model.specs.Causes.{Rule, orIf, orRule, firstOf}
 use Rattle.model.specs.Laws.{Passed, Decides, here, below}
 use Rattle.model.specs.declared.Answer.{Answer}
@@ -13,6 +15,11 @@ use Rattle.model.specs.declared.Answer.the-variants.{Accepted, Refused}
 use Rattle.model.specs.declared.Cause.{Cause}
 use Rattle.model.specs.declared.Ruling.{Ruling}
 use Rattle.model.specs.declared.Ruling.the-variants.{Fine, Refuse}
+
+-- one of two types, by a test
+abbrev pub either : Bool → Type 0 → Type 0 → Type 0
+either true P Q = P
+either false P Q = Q
 
 stays : (x : Cause) (l : List Rule) → fold orRule (Refuse x) l ≡ Refuse x
 unfolding fold orIf
@@ -41,6 +48,19 @@ pub passed-fine : (l : List Rule) → Passed l → firstOf l ≡ Fine
 unfolding firstOf fold orIf
 passed-fine [] P = refl
 passed-fine (r ∷ l) P = rw (P .0) (passed-fine l (P .1))
+
+-- what is known of the line of a number then: its test does not hold
+abbrev pub Past : (number : ℕ) → List Rule → Type 0
+Past n [] = Unit {0}
+Past n (r ∷ l) = either (eqb (causeNumber (r .cause)) n) (r .holds ≡ false) (Past n l)
+
+pub past : (n : ℕ) (l : List Rule) → Passed l → Past n l
+past n [] P = tt
+past n (r ∷ l) P = go (eqb (causeNumber (r .cause)) n) (past n l (P .1))
+  where
+    go : (b : Bool) → Past n l → either b (r .holds ≡ false) (Past n l)
+    go true q = P .0
+    go false q = q
 
 same-cause : (x y : Cause) → _≡_ {A = Ruling} (Refuse x) (Refuse y) → x ≡ y
 same-cause x y e = cc

@@ -37,6 +37,7 @@ use Rattle.model.proofs.Figures.{figure-energies}
 use Rattle.model.proofs.Invariant.{Holds, Versioned, Done, Granted, tenanted, count-is, quarters-in, finish}
 use Rattle.model.proofs.Lists.{all-snoc}
 use Rattle.model.proofs.Logs.{used-rows}
+use Rattle.model.proofs.Rules.{past}
 use Rattle.model.proofs.Storing.{stored-more}
 
 module _ (p x e : ℕ) (es : List ℤ) (d : Desk) (s : Stores) (h : List Told) (H : Holds d s h) (P : Passed (rules (viewOf d) (lengthsOf s) (submits p x e es))) where
@@ -60,7 +61,7 @@ module _ (p x e : ℕ) (es : List ℤ) (d : Desk) (s : Stores) (h : List Told) (
   n = count-is d (H .table)
 
   fields : submitOk p x e (d .frame .opening .quarters) es ≡ true
-  fields = not-false (submitOk p x e (d .frame .opening .quarters) es) (P .1 .1 .0)
+  fields = not-false (submitOk p x e (d .frame .opening .quarters) es) (past 3 (rules (viewOf d) (lengthsOf s) (submits p x e es)) P)
 
   inP : pointOk p ≡ true
   inP = and-left (pointOk p) _ fields
@@ -76,7 +77,7 @@ module _ (p x e : ℕ) (es : List ℤ) (d : Desk) (s : Stores) (h : List Told) (
   full = eqb-true (length es) (d .frame .opening .quarters) (and-left (eqb (length es) (d .frame .opening .quarters)) _ (and-right (dayOk e) _ rest))
 
   free : (leb versions (length (versionsIn d)) || ltb (d .frame .opening .values) ((length (versionsIn d) + 1) * d .frame .opening .quarters)) ≡ false
-  free = P .1 .1 .1 .1 .1 .1 .1 .1 .1 .0
+  free = past 16 (rules (viewOf d) (lengthsOf s) (submits p x e es)) P
 
   below : length (versionsIn d) < versions
   below = leb-false versions (length (versionsIn d)) (or-left _ _ free)
@@ -101,7 +102,7 @@ module _ (p x e : ℕ) (es : List ℤ) (d : Desk) (s : Stores) (h : List Told) (
         count = omega (arith, below);
         rows = omega (arith, row-in);
         each = all-snoc (versionRecordOk (rowsIn (d .frame .opening))) (versionsIn d) (new m) (O .each) (and-both (pointOk p) _ inP (and-both (versionOk x) _ inX (lt-ltb m (rowsIn (d .frame .opening)) row-in)));
-        homes = all-snoc (tenanted (d .points)) (versionsIn d) (new m) (O .homes) (not-false (isActive (pointAt (d .points) p)) (P .1 .1 .1 .1 .1 .0));
+        homes = all-snoc (tenanted (d .points)) (versionsIn d) (new m) (O .homes) (not-false (isActive (pointAt (d .points) p)) (past 12 (rules (viewOf d) (lengthsOf s) (submits p x e es)) P));
       }
 
   -- with the next unused row, which is as many as there are versions
@@ -125,7 +126,7 @@ module _ (p x e : ℕ) (es : List ℤ) (d : Desk) (s : Stores) (h : List Told) (
       (λ i l. ap (λ (v : VersionRecord). v .row .0) (List·getD-append (versionsIn d) (new m ∷ []) emptyVersion i l))
       (λ r i ne. submit-other r i (new m) (versionsIn d) (λ z. ne (sym z)))
       (booked-same (d .frame .opening .quarters) (s .book) _ _ (λ run k j _ _ _ _. figure-energies (d .points) (d .frame .groups) (versionsIn d) (energiesOf h) es (K .stored .long) run k j) (K .booked))
-      (P .1 .1 .1 .1 .1 .1 .1 .1 .1 .1 .0))
+      (past 17 (rules (viewOf d) (lengthsOf s) (submits p x e es)) P))
 
   done : Done d s h (submits p x e es) s
   done =

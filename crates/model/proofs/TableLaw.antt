@@ -49,7 +49,7 @@ use Rattle.model.specs.declared.Cause.the-variants.{NotOpen}
 use Rattle.model.specs.declared.Ruling.{Ruling}
 use Rattle.model.specs.declared.Ruling.the-variants.{Fine, Refuse}
 use Rattle.model.proofs.CauseLaws.{status-found, step-accepts, step-refused, step-refuses}
-use Rattle.model.proofs.Rules.{not-refused, passed, passed-fine, first-decides, decides-first}
+use Rattle.model.proofs.Rules.{not-refused, passed, passed-fine, past, first-decides, decides-first}
 use Rattle.model.proofs.TableDue.{means-submit-due, means-notice-due}
 use Rattle.model.proofs.TableWords.{means-unopened, means-allowed, means-stores, means-book, means-submit, means-active, means-early, means-same-series, means-has, means-present, means-absent, means-status, means-below, means-deadline, means-flag, means-second}
 
@@ -61,6 +61,10 @@ Says [] end = Unit {0}
 Says [] (line m P t) = ⊥
 Says (r ∷ l) end = ⊥
 Says (r ∷ l) (line m P t) = (causeNumber (r .cause) ≡ m) × (Means (r .holds) P × (r .holds ≡ false → Says l t))
+
+-- one line: its number is the paper's, its test says what the line says, and so on below it
+said : {number : ℕ} {test : Bool} {P S : Type 0} → Means test P → (test ≡ false → S) → (number ≡ number) × (Means test P × (test ≡ false → S))
+said m lower = (refl, (m, lower))
 
 pub decides-first-is : (x : Cause) (l : List Rule) (t : Table) → Says l t → Decides x l → FirstIs t (causeNumber x)
 decides-first-is x l end S (here h e) = absurd S
@@ -134,337 +138,79 @@ module _ (v : View) (n : Lengths) where
       check-status CorrectionSettled z = absurd (false≢true z)
 
   pub says : (c : Call) → Says (rules v n c) (table v n c)
-  says (opens q f c k gs) = (
-    refl,
-    (
-      means-not _ (means-eq (v .frame .opening .quarters) 0),
-      λ _. (
-        refl,
-        (
-          means-not (opensOk (openingBy q f c k n) gs) (means-allowed q f c k gs n),
-          λ _.
-              tt,
-        ),
-      ),
-    ),
-  )
-  says (activates p k a b d) = (
-    refl,
-    (
-      unopened,
-      λ _. (
-        refl,
-        (
-          means-not (pointOk p && (dayOk d && seriesOk k a b)) (means-and (pointOk p) _ (means-point p) (λ _. means-and (dayOk d) _ (means-day d) (λ _. means-series k a b))),
-          λ _. (
-            refl,
-            (
-              means-lt d (v .frame .day .0),
-              λ _. (
-                refl,
-                (
-                  means-lt (v .frame .opening .correction .0) d,
-                  λ _. (
-                    refl,
-                    (
-                      means-active (v .points) p,
-                      λ _. (
-                        refl,
-                        (
-                          means-same-series (v .points) k a b,
-                          λ _.
-                              tt,
-                        ),
-                      ),
-                    ),
-                  ),
-                ),
-              ),
-            ),
-          ),
-        ),
-      ),
-    ),
-  )
-  says (deactivates p d) = (
-    refl,
-    (
-      unopened,
-      λ _. (
-        refl,
-        (
-          means-not (pointOk p && dayOk d) (means-and (pointOk p) _ (means-point p) (λ _. means-day d)),
-          λ _. (
-            refl,
-            (
-              means-lt d (v .frame .day .0),
-              λ _. (
-                refl,
-                (
-                  means-lt (v .frame .opening .correction .0) d,
-                  λ _. (
-                    refl,
-                    (
-                      means-not (isActive (pointAt (v .points) p)) (means-active (v .points) p),
-                      λ _. (
-                        refl,
-                        (
-                          means-has (v .versions) p,
-                          λ _.
-                              tt,
-                        ),
-                      ),
-                    ),
-                  ),
-                ),
-              ),
-            ),
-          ),
-        ),
-      ),
-    ),
-  )
-  says (submits p x d es) = (
-    refl,
-    (
-      unopened,
-      λ _. (
-        refl,
-        (
-          means-stores n (v .frame .opening),
-          λ _. (
-            refl,
-            (
-              means-not (submitOk p x d (v .frame .opening .quarters) es) (means-submit p x d (v .frame .opening .quarters) es),
-              λ fields. (
-                refl,
-                (
-                  means-lt d (v .frame .day .0),
-                  λ _. (
-                    refl,
-                    (
-                      means-lt (v .frame .opening .correction .0) d,
-                      λ _. (
-                        refl,
-                        (
-                          means-not (isActive (pointAt (v .points) p)) (means-active (v .points) p),
-                          λ on. (
-                            refl,
-                            (
-                              means-early (v .points) p d (not-false (isActive (pointAt (v .points) p)) on),
-                              λ _. (
-                                refl,
-                                (
-                                  means-present (v .versions) p x,
-                                  λ free. (
-                                    refl,
-                                    (
-                                      means-below (v .versions) p x,
-                                      λ up. (
-                                        refl,
-                                        (
-                                          means-or (leb versions (length (v .versions))) _ (means-le 512 (length (v .versions))) (means-lt (v .frame .opening .values) ((length (v .versions) + 1) * v .frame .opening .quarters)),
-                                          λ _. (
-                                            refl,
-                                            (
-                                              means-submit-due (v .versions) (v .frame .opening .first .0) p x d (highest-below p x d es fields free up) (v .frame .used) (v .frame .opening .log),
-                                              λ _.
-                                                  tt,
-                                            ),
-                                          ),
-                                        ),
-                                      ),
-                                    ),
-                                  ),
-                                ),
-                              ),
-                            ),
-                          ),
-                        ),
-                      ),
-                    ),
-                  ),
-                ),
-              ),
-            ),
-          ),
-        ),
-      ),
-    ),
-  )
-  says (notices p x y d) = (
-    refl,
-    (
-      unopened,
-      λ _. (
-        refl,
-        (
-          means-stores n (v .frame .opening),
-          λ _. (
-            refl,
-            (
-              means-not (noticeOk p x y d) (means-and (pointOk p) _ (means-point p) (λ _. means-and (versionOk x) _ (means-version x) (λ _. means-and (leb y 1) _ (means-le y 1) (λ _. means-day d)))),
-              λ _. (
-                refl,
-                (
-                  means-lt d (v .frame .day .0),
-                  λ _. (
-                    refl,
-                    (
-                      means-lt (v .frame .opening .correction .0) d,
-                      λ _. (
-                        refl,
-                        (
-                          means-not (isActive (pointAt (v .points) p)) (means-active (v .points) p),
-                          λ _. (
-                            refl,
-                            (
-                              means-absent (v .versions) p x,
-                              λ there. (
-                                refl,
-                                (
-                                  means-status (v .versions) p x there,
-                                  λ check. (
-                                    refl,
-                                    (
-                                      noticed-due p x y d (held p x (v .versions)) refl check,
-                                      λ _.
-                                          tt,
-                                    ),
-                                  ),
-                                ),
-                              ),
-                            ),
-                          ),
-                        ),
-                      ),
-                    ),
-                  ),
-                ),
-              ),
-            ),
-          ),
-        ),
-      ),
-    ),
-  )
-  says (assigns a g d) = (
-    refl,
-    (
-      unopened,
-      λ _. (
-        refl,
-        (
-          means-book n (v .frame .opening),
-          λ _. (
-            refl,
-            (
-              means-not (deltaOk a && (groupOk g && dayOk d)) (means-and (deltaOk a) _ (means-delta a) (λ _. means-and (groupOk g) _ (means-group g) (λ _. means-day d))),
-              λ _. (
-                refl,
-                (
-                  means-lt d (v .frame .day .0),
-                  λ _. (
-                    refl,
-                    (
-                      means-lt (v .frame .opening .clearing .0) d,
-                      λ _.
-                          tt,
-                    ),
-                  ),
-                ),
-              ),
-            ),
-          ),
-        ),
-      ),
-    ),
-  )
-  says (shows r g) = (
-    refl,
-    (
-      unopened,
-      λ _. (
-        refl,
-        (
-          means-book n (v .frame .opening),
-          λ _. (
-            refl,
-            (
-              means-not (runOk r && groupOk g) (means-and (runOk r) _ (means-run r) (λ _. means-group g)),
-              λ _.
-                  tt,
-            ),
-          ),
-        ),
-      ),
-    ),
-  )
-  says (asks p x) = (
-    refl,
-    (
-      unopened,
-      λ _. (
-        refl,
-        (
-          means-not (pointOk p && versionOk x) (means-and (pointOk p) _ (means-point p) (λ _. means-version x)),
-          λ _. (
-            refl,
-            (
-              means-not (isActive (pointAt (v .points) p)) (means-active (v .points) p),
-              λ _. (
-                refl,
-                (
-                  means-absent (v .versions) p x,
-                  λ _.
-                      tt,
-                ),
-              ),
-            ),
-          ),
-        ),
-      ),
-    ),
-  )
-  says (settles r d) = (
-    refl,
-    (
-      unopened,
-      λ _. (
-        refl,
-        (
-          means-not (runOk r && dayOk d) (means-and (runOk r) _ (means-run r) (λ _. means-day d)),
-          λ fields.
-              let run = means-run r .holds (and-left (runOk r) _ (not-false (runOk r && dayOk d) fields)) in (
-                refl,
-                (
-                  means-lt d (v .frame .day .0),
-                  λ _. (
-                    refl,
-                    (
-                      means-deadline (v .frame .opening) r d run,
-                      λ _. (
-                        refl,
-                        (
-                          means-flag (v .frame .settled) r run,
-                          λ _. (
-                            refl,
-                            (
-                              means-second (v .frame .settled) r,
-                              λ _.
-                                  tt,
-                            ),
-                          ),
-                        ),
-                      ),
-                    ),
-                  ),
-                ),
-              ),
-        ),
-      ),
-    ),
-  )
+  says (opens q f c k gs) =
+      said (means-not _ (means-eq (v .frame .opening .quarters) 0)) (λ _.
+      said (means-not (opensOk (openingBy q f c k n) gs) (means-allowed q f c k gs n)) (λ _.
+      tt))
+  says (activates p k a b d) =
+      said unopened (λ _.
+      said (means-not (pointOk p && (dayOk d && seriesOk k a b)) (means-and (pointOk p) _ (means-point p) (λ _. means-and (dayOk d) _ (means-day d) (λ _. means-series k a b)))) (λ _.
+      said (means-lt d (v .frame .day .0)) (λ _.
+      said (means-lt (v .frame .opening .correction .0) d) (λ _.
+      said (means-active (v .points) p) (λ _.
+      said (means-same-series (v .points) k a b) (λ _.
+      tt))))))
+  says (deactivates p d) =
+      said unopened (λ _.
+      said (means-not (pointOk p && dayOk d) (means-and (pointOk p) _ (means-point p) (λ _. means-day d))) (λ _.
+      said (means-lt d (v .frame .day .0)) (λ _.
+      said (means-lt (v .frame .opening .correction .0) d) (λ _.
+      said (means-not (isActive (pointAt (v .points) p)) (means-active (v .points) p)) (λ _.
+      said (means-has (v .versions) p) (λ _.
+      tt))))))
+  says (submits p x d es) =
+      said unopened (λ _.
+      said (means-stores n (v .frame .opening)) (λ _.
+      said (means-not (submitOk p x d (v .frame .opening .quarters) es) (means-submit p x d (v .frame .opening .quarters) es)) (λ fields.
+      said (means-lt d (v .frame .day .0)) (λ _.
+      said (means-lt (v .frame .opening .correction .0) d) (λ _.
+      said (means-not (isActive (pointAt (v .points) p)) (means-active (v .points) p)) (λ on.
+      said (means-early (v .points) p d (not-false (isActive (pointAt (v .points) p)) on)) (λ _.
+      said (means-present (v .versions) p x) (λ free.
+      said (means-below (v .versions) p x) (λ up.
+      said (means-or (leb versions (length (v .versions))) _ (means-le 512 (length (v .versions))) (means-lt (v .frame .opening .values) ((length (v .versions) + 1) * v .frame .opening .quarters))) (λ _.
+      said (means-submit-due (v .versions) (v .frame .opening .first .0) p x d (highest-below p x d es fields free up) (v .frame .used) (v .frame .opening .log)) (λ _.
+      tt)))))))))))
+  says (notices p x y d) =
+      said unopened (λ _.
+      said (means-stores n (v .frame .opening)) (λ _.
+      said (means-not (noticeOk p x y d) (means-and (pointOk p) _ (means-point p) (λ _. means-and (versionOk x) _ (means-version x) (λ _. means-and (leb y 1) _ (means-le y 1) (λ _. means-day d))))) (λ _.
+      said (means-lt d (v .frame .day .0)) (λ _.
+      said (means-lt (v .frame .opening .correction .0) d) (λ _.
+      said (means-not (isActive (pointAt (v .points) p)) (means-active (v .points) p)) (λ _.
+      said (means-absent (v .versions) p x) (λ there.
+      said (means-status (v .versions) p x there) (λ check.
+      said (noticed-due p x y d (held p x (v .versions)) refl check) (λ _.
+      tt)))))))))
+  says (assigns a g d) =
+      said unopened (λ _.
+      said (means-book n (v .frame .opening)) (λ _.
+      said (means-not (deltaOk a && (groupOk g && dayOk d)) (means-and (deltaOk a) _ (means-delta a) (λ _. means-and (groupOk g) _ (means-group g) (λ _. means-day d)))) (λ _.
+      said (means-lt d (v .frame .day .0)) (λ _.
+      said (means-lt (v .frame .opening .clearing .0) d) (λ _.
+      tt)))))
+  says (shows r g) =
+      said unopened (λ _.
+      said (means-book n (v .frame .opening)) (λ _.
+      said (means-not (runOk r && groupOk g) (means-and (runOk r) _ (means-run r) (λ _. means-group g))) (λ _.
+      tt)))
+  says (asks p x) =
+      said unopened (λ _.
+      said (means-not (pointOk p && versionOk x) (means-and (pointOk p) _ (means-point p) (λ _. means-version x))) (λ _.
+      said (means-not (isActive (pointAt (v .points) p)) (means-active (v .points) p)) (λ _.
+      said (means-absent (v .versions) p x) (λ _.
+      tt))))
+  says (settles r d) =
+      said unopened (λ _.
+      said (means-not (runOk r && dayOk d) (means-and (runOk r) _ (means-run r) (λ _. means-day d))) (λ fields.
+      said (means-lt d (v .frame .day .0)) (λ _.
+      said (means-deadline (v .frame .opening) r d (run-in fields)) (λ _.
+      said (means-flag (v .frame .settled) r (run-in fields)) (λ _.
+      said (means-second (v .frame .settled) r) (λ _.
+      tt))))))
+    where
+      run-in : not (runOk r && dayOk d) ≡ false → (r ≡ 1) ⊎ (r ≡ 2)
+      run-in fields = means-run r .holds (and-left (runOk r) _ (not-false (runOk r && dayOk d) fields))
 
 -- "only those that fit the call", from top to bottom: the numbers
 pub numbers : (v : View) (n : Lengths) (c : Call) → map (λ (r : Rule). causeNumber (r .cause)) (rules v n c) ≡ fits c
@@ -541,14 +287,14 @@ module _ (d : Desk) (s : Stores) where
       beneath : (x : Cause) (m : List Rule) → Decides x (record { holds = false; cause = NotOpen } ∷ m) → Decides x m
       beneath x m (here h e) = absurd (false≢true h)
       beneath x m (below h D) = D
-  step-by-table (activates p k a b t) = others (activates p k a b t) (refl, (limits, λ _. says (viewOf d) (lengthsOf s) (activates p k a b t)))
-  step-by-table (deactivates p t) = others (deactivates p t) (refl, (limits, λ _. says (viewOf d) (lengthsOf s) (deactivates p t)))
-  step-by-table (submits p x t es) = others (submits p x t es) (refl, (limits, λ _. says (viewOf d) (lengthsOf s) (submits p x t es)))
-  step-by-table (notices p x y t) = others (notices p x y t) (refl, (limits, λ _. says (viewOf d) (lengthsOf s) (notices p x y t)))
-  step-by-table (assigns a g t) = others (assigns a g t) (refl, (limits, λ _. says (viewOf d) (lengthsOf s) (assigns a g t)))
-  step-by-table (shows r g) = others (shows r g) (refl, (limits, λ _. says (viewOf d) (lengthsOf s) (shows r g)))
-  step-by-table (asks p x) = others (asks p x) (refl, (limits, λ _. says (viewOf d) (lengthsOf s) (asks p x)))
-  step-by-table (settles r t) = others (settles r t) (refl, (limits, λ _. says (viewOf d) (lengthsOf s) (settles r t)))
+  step-by-table (activates p k a b t) = others (activates p k a b t) (said limits (λ _. says (viewOf d) (lengthsOf s) (activates p k a b t)))
+  step-by-table (deactivates p t) = others (deactivates p t) (said limits (λ _. says (viewOf d) (lengthsOf s) (deactivates p t)))
+  step-by-table (submits p x t es) = others (submits p x t es) (said limits (λ _. says (viewOf d) (lengthsOf s) (submits p x t es)))
+  step-by-table (notices p x y t) = others (notices p x y t) (said limits (λ _. says (viewOf d) (lengthsOf s) (notices p x y t)))
+  step-by-table (assigns a g t) = others (assigns a g t) (said limits (λ _. says (viewOf d) (lengthsOf s) (assigns a g t)))
+  step-by-table (shows r g) = others (shows r g) (said limits (λ _. says (viewOf d) (lengthsOf s) (shows r g)))
+  step-by-table (asks p x) = others (asks p x) (said limits (λ _. says (viewOf d) (lengthsOf s) (asks p x)))
+  step-by-table (settles r t) = others (settles r t) (said limits (λ _. says (viewOf d) (lengthsOf s) (settles r t)))
 
 -- what the plain desk grants is no refusal
 granted-fine : {A : Type 0} (h : List Told) (n : Lengths) (c : Call) (x : Cause) → Passed (rules (viewIn h) n c) → granted h c .answer ≡ Refused x → A
@@ -560,7 +306,7 @@ granted-fine h n (submits p y d es) x P e = not-refused x e
 granted-fine h n (notices p y z d) x P e = not-refused x e
 granted-fine h n (assigns a g d) x P e = not-refused x e
 granted-fine h n (shows r g) x P e = not-refused x e
-granted-fine h n (asks p y) x P e = status-found (held p y (versionsOf h)) x (P .1 .1 .1 .0) e
+granted-fine h n (asks p y) x P e = status-found (held p y (versionsOf h)) x (past 24 (rules (viewIn h) n (asks p y)) P) e
 granted-fine h n (settles r d) x P e = not-refused x e
 
 -- the plain desk, after any calls

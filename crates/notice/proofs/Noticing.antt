@@ -40,7 +40,7 @@ use Rattle.model.specs.declared.Answer.the-variants.{Accepted}
 use Rattle.model.specs.declared.Due.{Due}
 use Rattle.model.specs.declared.Turn.{Turn}
 use Rattle.model.specs.declared.Ruling.the-variants.{Fine}
-use Rattle.model.proofs.Rules.{passed}
+use Rattle.model.proofs.Rules.{passed, past}
 use Rattle.model.proofs.Selections.{noticed-restated, restated-all}
 use Rattle.amend.proofs.Logs.{room-left}
 use Rattle.amend.proofs.Within.{turn-in}
@@ -106,18 +106,18 @@ module _ (d : Desk) (p x y day : ℕ) (values book log : List ℕ) (h : Held) (t
     (H : h ≡ held p x (versionsIn d)) (T : t ≡ turnOf (versionsIn d) (noticedIn d p x y day) p) (D : o ≡ due (versionsIn d) (noticedIn d p x y day) p day) where
   pub notice-allowed : {here : PointState} → here ≡ pointAt (d .points) p → firstOf (rules (viewOf d) (lengthsIn (sizesOf values book log)) (notices p x y day)) ≡ Fine → NoticeFits d here h values book log t o
   notice-allowed known fine =
-      let r = passed _ fine .1 in
-      let n = lengths (sizesOf values book log) (d .frame .opening) (r .0) in
+      let P = passed (rules (viewOf d) (lengthsIn (sizesOf values book log)) (notices p x y day)) fine in
+      let n = lengths (sizesOf values book log) (d .frame .opening) (past 2 (rules (viewOf d) (lengthsIn (sizesOf values book log)) (notices p x y day)) P) in
       let rows = rowsIn (d .frame .opening) in
       let fits : rows * d .frame .opening .quarters ≤ d .frame .opening .values = rows-fit (d .frame .opening) (s .quarters) rows (omega arith) in
       let ok : all (versionRecordOk rows) (noticedIn d p x y day) ≡ true = restated-all (versionsIn d) (noticedIn d p x y day) (noticed-restated (d .frame .opening .clearing .0) p x y day (versionsIn d)) (versionRecordOk rows) (λ v. refl) (s .versions) in
       record {
         sound = s;
         fit = rw known (state-in d s p);
-        check = rw H (check-found d p x (held p x (versionsIn d)) (held-right p x (versionsIn d)) (s .count) table (r .1 .1 .1 .1 .1 .1 .0));
+        check = rw H (check-found d p x (held p x (versionsIn d)) (held-right p x (versionsIn d)) (s .count) table (past 25 (rules (viewOf d) (lengthsIn (sizesOf values book log)) (notices p x y day)) P));
         whole = n .1 ∙ s .book;
         turn = rw T (turn-in (d .frame .opening .quarters) rows values (omega (arith, n .0)) (versionsIn d) (noticedIn d p x y day) p (s .versions) ok);
-        left = room-left (d .frame .used) (d .frame .opening .log) log o (n .2) (ap (logFull (d .frame .used) (d .frame .opening .log)) D ∙ r .1 .1 .1 .1 .1 .1 .1 .0);
+        left = room-left (d .frame .used) (d .frame .opening .log) log o (n .2) (ap (logFull (d .frame .used) (d .frame .opening .log)) D ∙ past 17 (rules (viewOf d) (lengthsIn (sizesOf values book log)) (notices p x y day)) P);
       }
 
   -- its effect is what the step makes of the desk and the stores

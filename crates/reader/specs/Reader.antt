@@ -1,15 +1,15 @@
 -- What the reader answers at an offset of a file, and what it leaves in the series buffer.
 use Prim.Native.Nat.{ℕ, _-_}
 use mathlib.Core.Bool.{cond}
-use mathlib.Core.List.{List, [], _++_, map}
+use mathlib.Core.List.{List, [], _++_}
 use lib.Dec.{eqb}
 use lib.IntN.{ℤ}
 use lib.ListN.{length, drop, replicate}
 use Rattle.quantity.specs.Limits.{deltas}
-use Rattle.quantity.specs.Word.{word}
 use Rattle.message.specs.Read.{Read, got, refused}
 use Rattle.message.specs.Call.{Sent, parse, mostFields}
 use Rattle.message.specs.Named.{callOf, groupsOf}
+use Rattle.message.specs.Series.{filled}
 use Rattle.message.specs.declared.FileCause.the-variants.{BadKind}
 use Rattle.message.specs.declared.Named.{Named}
 use Rattle.message.specs.declared.Named.the-variants.{Known, Unknown}
@@ -46,19 +46,10 @@ readingOf n at (refused x) = without (Refused x at)
 unfoldable pub readAt : (file : List ℕ) (at room : ℕ) → Reading
 readAt s at room = cond (eqb at (length s)) (without End) (readingOf (length s) at (parse room (drop at s)))
 
--- a list that was read, none where it is refused
-abbrev pub listOf : {A : Type 0} → Read (List A) → List A
-listOf (got l r) = l
-listOf (refused x) = []
-
 -- the energies of a call that was read
 abbrev pub energiesOf : Read Sent → List ℤ
 energiesOf (got c r) = c .energies
 energiesOf (refused x) = []
-
--- "an accepted submission fills the first places with its energies, the others stay"
-abbrev pub filled : List ℤ → (series : List ℕ) → List ℕ
-filled es series = map word es ++ drop (length es) series
 
 -- the series buffer after the call at an offset: "every other call leaves it unchanged"
 abbrev pub seriesAfter : (file : List ℕ) (at : ℕ) (series : List ℕ) → List ℕ

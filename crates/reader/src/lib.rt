@@ -6,22 +6,18 @@ use message::NumberRead;
 use message::Passed;
 use message::call;
 use message::call::MOST_FIELDS;
-use message::energy;
 use message::number;
-use message::pass;
+use message::series;
 use quantity::limits::DELTAS;
 ghost use mathlib.Core.Path.{_≡_};
-ghost use mathlib.Core.Bool.{true};
-ghost use mathlib.Core.List.{map};
 ghost use Prim.Native.Nat.{_≤_};
 ghost use lib.ListN.{length, drop};
-ghost use Rattle.message.specs.Read.{accepted};
 ghost use Rattle.message.specs.Number.{numbersIn};
-ghost use Rattle.message.specs.Energy.{received};
-ghost use Rattle.message.specs.Call.{mostFields, seriesIn, tailIn, kindIn};
+ghost use Rattle.message.specs.Call.{mostFields, tailIn, kindIn};
 ghost use Rattle.message.specs.Named.{callOf, groupsOf};
 ghost use Rattle.message.specs.Offset.{numberOf};
-ghost use Rattle.reader.specs.Reader.{fieldsRead, without, readAs, readingOf, readAt, listOf, energiesOf, filled, seriesAfter};
+ghost use Rattle.message.specs.Series.{listOf, filled};
+ghost use Rattle.reader.specs.Reader.{fieldsRead, without, readAs, readingOf, readAt, energiesOf, seriesAfter};
 
 // Fields that were passed, with 0 behind them.
 pub struct FieldsRead {
@@ -81,42 +77,6 @@ fn read_fields(file: &[u8], at: usize, n: usize) -> FieldsRead
     }
 }
 
-// The energies of n numbers that are known to be there, into the first places of the buffer.
-fn fill_series(file: &[u8], at: usize, n: usize, series: &mut [u64])
-    requires { ⌜ (at ≤ length (now file)) × (n ≤ length (now series)) × (accepted (numbersIn n (drop at (now file))) ≡ true) ⌝ }
-    ensures { λ _. ⌜ now (series .exit) ≡ filled (map received (listOf (numbersIn n (drop at (now (file .entry)))))) (now (series .entry)) ⌝ }
-{
-    let mut j = at;
-    let mut i = 0;
-    while i < n {
-        let known = number::known_number(file, j);
-        let energy = energy::received_of(known.value);
-        series[i] = energy.0;
-        j = known.next;
-        i += 1;
-    }
-}
-
-// A submission's count and energies: all are checked before the first is stored, and then decoded once.
-fn read_series(file: &[u8], at: usize, series: &mut [u64]) -> NumberRead
-    ensures { λ r. ⌜ (r ≡ numberOf length (length (now (file .entry))) (seriesIn (length (now (series .entry))) (drop at (now (file .entry)))))
-        × (now (series .exit) ≡ filled (listOf (seriesIn (length (now (series .entry))) (drop at (now (file .entry))))) (now (series .entry))) ⌝ }
-{
-    match call::read_count(file, at, series.len()) {
-        NumberRead::Number { value, next } => {
-            let n = value as usize;
-            match pass::pass_numbers(file, next, n) {
-                Passed::To(end) => {
-                    fill_series(file, next, n, series);
-                    NumberRead::Number { value, next: end }
-                }
-                Passed::Refused(cause) => NumberRead::Refused(cause),
-            }
-        }
-        NumberRead::Refused(cause) => NumberRead::Refused(cause),
-    }
-}
-
 // What follows the fields of a kind.
 fn read_tail(file: &[u8], at: usize, kind: u64, series: &mut [u64]) -> NumberRead
     requires { ⌜ at ≤ length (now file) ⌝ }
@@ -124,7 +84,7 @@ fn read_tail(file: &[u8], at: usize, kind: u64, series: &mut [u64]) -> NumberRea
         × (now (series .exit) ≡ filled (listOf (tailIn (length (now (series .entry))) kind (drop at (now (file .entry))))) (now (series .entry))) ⌝ }
 {
     if kind == call::SUBMISSION {
-        return read_series(file, at, series);
+        return series::read_series(file, at, series);
     }
     NumberRead::Number { value: 0, next: at }
 }

@@ -27,7 +27,8 @@ use Rattle.model.specs.Agreement.{Running}
 use Rattle.model.specs.Call.{Call, Stores, answerNumber}
 use Rattle.model.specs.declared.Answer.{Answer}
 use Rattle.checks.specs.Stepped.{storesOf}
-use Rattle.reader.specs.Reader.{padded, filled, readAt, seriesAfter}
+use Rattle.message.specs.Series.{filled}
+use Rattle.reader.specs.Reader.{padded, readAt, seriesAfter}
 use Rattle.reader.specs.declared.Step.{Step}
 use Rattle.reader.specs.declared.Step.the-variants.{Call as CallRead, End as FileEnd, Refused as NotRead}
 use Rattle.reader.proofs.Step.{the-type as step-type}

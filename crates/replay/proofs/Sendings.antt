@@ -17,7 +17,8 @@ use Rattle.quantity.proofs.Words.{signed-word, small-fits}
 use Rattle.message.specs.Call.{Sent, Carried}
 use Rattle.message.specs.Energy.{fitsEnergy}
 use Rattle.message.specs.Number.{fitsNumber}
-use Rattle.reader.specs.Reader.{padded, filled}
+use Rattle.message.specs.Series.{filled}
+use Rattle.reader.specs.Reader.{padded}
 use Rattle.message.specs.Named.{callOf, groupsOf}
 use Rattle.message.specs.declared.DeskCall.{DeskCall}
 use Rattle.message.specs.declared.Named.{Named}

@@ -6,7 +6,7 @@ use Rattle.model.specs.Agreement.{Running, fresh}
 use Rattle.model.specs.Causes.{terms}
 use Rattle.model.specs.Call.{Call, Stores, Lent, answerNumber}
 use Rattle.model.specs.Step.{Outcome, step, withBook}
-use Rattle.reader.specs.Reader.{filled}
+use Rattle.message.specs.Series.{filled}
 use Rattle.replay.specs.Feeding.{lentOf}
 use Rattle.replay.specs.Given.{Given, given}
 

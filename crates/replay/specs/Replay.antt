@@ -16,7 +16,7 @@ use Rattle.model.specs.Call.{Stores, lengthsOf, Told, Reply, answerNumber}
 use Rattle.model.specs.Log.{logNumbers}
 use Rattle.model.specs.Plain.{openingOf, energiesOf, logOf, viewIn, figure, outside, plainReplies, plainEnd}
 use Rattle.model.specs.View.{viewOf}
-use Rattle.reader.specs.Reader.{filled}
+use Rattle.message.specs.Series.{filled}
 use Rattle.replay.specs.Feeding.{tells}
 use Rattle.replay.specs.Given.{Given, given, givenIn}
 use Rattle.replay.specs.declared.Ending.{Ending as EndingOf}

@@ -38,7 +38,7 @@ use Rattle.model.specs.View.{viewOf}
 use Rattle.model.specs.declared.Due.{Due}
 use Rattle.model.specs.declared.Turn.{Turn}
 use Rattle.model.specs.declared.Ruling.the-variants.{Fine}
-use Rattle.model.proofs.Rules.{passed}
+use Rattle.model.proofs.Rules.{passed, past}
 use Rattle.amend.proofs.Logs.{room-left}
 use Rattle.submit.specs.Submit.{ownBy, turnBy, submittedIn, Granted}
 
@@ -81,17 +81,17 @@ module _ (d : Desk) (p x day : ℕ) (series values book log : List ℕ) (t : Tur
     (fine : firstOf (rules (viewOf d) (lengthsIn (sizesOf values book log)) (submits p x day (map signed series))) ≡ Fine) where
   pub submit-allowed : {here : PointState} → here ≡ pointAt (d .points) p → Granted d here p x day series values book log t o
   submit-allowed known =
-      let r = passed _ fine .1 in
-      let n = lengths (sizesOf values book log) (d .frame .opening) (r .0) in
-      let fields = not-false _ (r .1 .0) in
+      let P = passed (rules (viewOf d) (lengthsIn (sizesOf values book log)) (submits p x day (map signed series))) fine in
+      let n = lengths (sizesOf values book log) (d .frame .opening) (past 2 (rules (viewOf d) (lengthsIn (sizesOf values book log)) (submits p x day (map signed series))) P) in
+      let fields = not-false _ (past 3 (rules (viewOf d) (lengthsIn (sizesOf values book log)) (submits p x day (map signed series))) P) in
       let f1 = and-right (pointOk p) _ fields in
       let f2 = and-right (versionOk x) _ f1 in
       let f3 = and-right (dayOk day) _ f2 in
       let count = eqb-true (length (map signed series)) (d .frame .opening .quarters) (and-left (eqb (length (map signed series)) (d .frame .opening .quarters)) _ f3) in
-      let rows = r .1 .1 .1 .1 .1 .1 .1 .1 .0 in
+      let rows = past 16 (rules (viewOf d) (lengthsIn (sizesOf values book log)) (submits p x day (map signed series))) P in
       let m = length-held d (s .count) table in
       let free = ltb-false (d .frame .opening .values) ((length (versionsIn d) + 1) * d .frame .opening .quarters) (or-right (leb versions (length (versionsIn d))) _ rows) in
-      let full = r .1 .1 .1 .1 .1 .1 .1 .1 .1 .0 in
+      let full = past 17 (rules (viewOf d) (lengthsIn (sizesOf values book log)) (submits p x day (map signed series))) P in
       record {
         sound = s;
         here = known;

@@ -1,15 +1,8 @@
 -- `point_row` meets its contract. Assumes nothing.
 use mathlib.Core.Path.{_∙_}
-use native.Mathlib.Numerals.{add-one}
 use borrow.Author.Needs.{needs}
 use Rattle.host.proofs.table.point_row.Statement.{statement}
 use Rattle.host.proofs.table.point_row.Tie as tie
-
-add-t8 : tie.Need-add-t8
-add-t8 c = search needs
-
-survey-requires : tie.Need-survey-requires
-survey-requires c κs = search needs
 
 version-of-requires : tie.Need-version-of-requires
 version-of-requires c κs = search needs
@@ -25,16 +18,13 @@ point-places-requires c κs = search needs
 
 returns : tie.Need-returns
 returns c =
-    let s = c .before .before .before .before .survey .ensures in
     c .point-places .ensures
-    ∙ rw (c .before .version-of2 .ensures, c .before .before .before .version-of .ensures, c .before .before .or-else .ensures, s .first, s .second, add-one (c .before .before .before .before .before .args .i))
+    ∙ rw (c .before .version-of2 .ensures, c .before .before .before .version-of .ensures, c .before .before .or-else .ensures)
 
 pub point-row-spec : {M : Type 1} → statement M
 point-row-spec =
     tie.close
     (tie.spec
-    add-t8
-    survey-requires
     version-of-requires
     or-else-requires
     version-of-requires-2

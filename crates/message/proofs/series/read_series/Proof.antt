@@ -2,10 +2,10 @@
 use borrow.Author.Needs.{needs}
 use mathlib.Core.Path.{sym, _∙_}
 use lib.ListN.{length}
 use Rattle.message.proofs.CountSteps.{counted}
-use Rattle.reader.proofs.ReaderSteps.{all-there, series-refused, count-refused, numbers-refused, series-ok}
-use Rattle.reader.proofs.read_series.Statement.{statement}
-use Rattle.reader.proofs.read_series.Tie as tie
+use Rattle.message.proofs.SeriesSteps.{all-there, series-refused, count-refused, numbers-refused, series-ok}
+use Rattle.message.proofs.series.read_series.Statement.{statement}
+use Rattle.message.proofs.series.read_series.Tie as tie
 
 read-count-requires : tie.Need-read-count-requires
 read-count-requires c κs = search needs

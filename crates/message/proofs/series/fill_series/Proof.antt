@@ -2,9 +2,9 @@
 use borrow.Author.Needs.{needs}
 use Prim.Native.Nat.{_-_}
 use mathlib.Core.Path.{sym}
-use Rattle.reader.proofs.Filling.{Pouring, pouring, poured-more, poured, known-next}
-use Rattle.reader.proofs.fill_series.Statement.{statement}
-use Rattle.reader.proofs.fill_series.Tie as tie
+use Rattle.message.proofs.Pouring.{Pouring, pouring, poured-more, poured, known-next}
+use Rattle.message.proofs.series.fill_series.Statement.{statement}
+use Rattle.message.proofs.series.fill_series.Tie as tie
 
 abbrev Inv-loop : tie.InvT-loop
 Inv-loop file at n series₀ j₀ i₀ series j i = Pouring file at n series₀ series j i
