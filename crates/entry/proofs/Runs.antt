@@ -16,20 +16,18 @@ use Rattle.state.specs.declared.Opening.{Opening}
 use Rattle.model.specs.Agreement.{Running, IsOwn, Own, leftIn, left, next, Chained, replies, end, fresh, Agree}
 use Rattle.model.specs.Call.{Call, opens, shows, asks, Taken, everyStore, Stores, Lent, told, Reply, answerNumber}
 use Rattle.model.specs.Causes.{takes}
-use Rattle.model.specs.Demands.{Answered, isIn}
 use Rattle.model.specs.Plain.{plainReplies, plainEnd}
 use Rattle.model.specs.Step.{step, granting, decided, refusalBy, replyOf}
 use Rattle.model.specs.declared.Answer.{Answer}
 use Rattle.model.specs.declared.Answer.the-variants.{Accepted, HasStatus, Refused}
 use Rattle.model.specs.declared.Ruling.{Ruling}
 use Rattle.model.specs.declared.Ruling.the-variants.{Fine, Refuse}
-use Rattle.model.proofs.ChangeLaws.{show-part}
-use Rattle.model.proofs.Demands as Demands
 use Rattle.model.proofs.Lending.{left-in}
 use Rattle.model.proofs.Main.{agree}
 use Rattle.checks.specs.Stepped.{IsStep, lent, storesOf}
 use Rattle.dispatch.specs.Asked.{asked}
 use Rattle.entry.specs.Entered.{Entered, byOpen, byApply, byShow, byStatus, callOf, lendingOf, lentOf, replyIn, deskAfter, storesAfter, Meets, leftBy, endOf, Run, LentOn, onAfter, Onward}
+use Rattle.calls.proofs.Parts.{empty-exactly}
 use Rattle.checks.proofs.Untaken.{values-kept, book-kept, log-kept, none-taken}
 
 -- ---- one entry
@@ -66,22 +64,11 @@ show-keeps d s run group = go (refusalBy d (told (lent (shows run group) s)))
 -- "the part is empty exactly when the number is not 0", of the two entries over the same input
 pub show-empty : (d : Desk) (run group : ℕ) (book : List ℕ) (a : Answer) (part : List ℕ) → Meets d (byShow run group book a part)
     → (part ≡ [] → answerNumber a ≡ 0 → ⊥) × ((answerNumber a ≡ 0 → ⊥) → part ≡ [])
-unfolding any
-show-empty d run group book a part m = go (step d l .answer) refl (Demands.answers d l)
-  where
-    s : Stores
-    s = storesOf [] book []
-
-    l : Lent
-    l = lent (shows run group) s
-
-    go : (b : Answer) → step d l .answer ≡ b → Answered (shows run group) b → (part ≡ [] → answerNumber a ≡ 0 → ⊥) × ((answerNumber a ≡ 0 → ⊥) → part ≡ [])
-    go Accepted e w =
-        let long = show-part d s run group e in
-        (λ p _. omega (arith, sym (ap length p) ∙ ap length (m .1 s) ∙ long .0, long .1), λ n. absurd (n (ap answerNumber (m .0 s ∙ e))))
-    go (HasStatus x) e w = absurd (false≢true w)
-    go (Refused x) e w =
-        (λ _ z. false≢true (sym (ap (isIn (1 ∷ 2 ∷ 3 ∷ [])) (sym (ap answerNumber (m .0 s ∙ e)) ∙ z)) ∙ w), λ _. m .1 s ∙ Demands.refused-keeps d l x e .part)
+show-empty d run group book a part m =
+    let s = storesOf [] book [] in
+    let e = empty-exactly d run group s in
+    let same = ap answerNumber (m .0 s) in
+    (λ p z. e .0 (sym (m .1 s) ∙ p) (sym same ∙ z), λ n. m .1 s ∙ e .1 (λ z. n (same ∙ z)))
 
 -- what an entry gave and left is the step's
 record Steps (d : Desk) (e : Entered) : Type 0 where

@@ -37,13 +37,6 @@ module _ {A : Type 0} (least : ℕ) (s : List ℕ) (at : ℕ) (d : Read A) (h : 
       go (got a r) q e = placed a r n q (cc)
       go (refused x) q e = absurd (let z : _≡_ {A = ℕ} 0 1 = cc in omega arith)
 
-  pub number-to : (f : A → ℕ) {v n : ℕ} → numberOf f (length s) d ≡ Number v n → Placed least s at d n
-  number-to f {v} {n} e = go d refl e
-    where
-      go : (t : Read A) → d ≡ t → numberOf f (length s) t ≡ Number v n → Placed least s at d n
-      go (got a r) q e = placed a r n q (cc)
-      go (refused x) q e = absurd (let z : _≡_ {A = ℕ} 0 1 = cc in omega arith)
-
 module _ {A : Type 0} (n : ℕ) (d : Read A) where
   pub passed-not : {x : FileCause} → passedOf n d ≡ NotPassed x → d ≡ refused x
   passed-not {x} e = go d refl e
@@ -58,10 +51,6 @@ module _ {A : Type 0} (n : ℕ) (d : Read A) where
       go : (t : Read A) → d ≡ t → numberOf f n t ≡ NoNumber x → d ≡ refused x
       go (got a r) q e = absurd (let z : _≡_ {A = ℕ} 0 1 = cc in omega arith)
       go (refused y) q e = cc
-
-  -- a number that was read is that of the value
-  pub number-is : (f : A → ℕ) {v m : ℕ} (a : A) (r : List ℕ) → numberOf f n d ≡ Number v m → d ≡ got a r → f a ≡ v
-  number-is f {v} {m} a r e q = let w : numberOf f n (got a r) ≡ Number v m = rw q at e in cc
 
 -- the number at an offset, wherever that is
 pub record NumberFound (s : List ℕ) (at v n : ℕ) : Type 0 where

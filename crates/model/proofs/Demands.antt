@@ -1,18 +1,15 @@
 -- Demand 1 for any state and stores, demand 2, and the agreement after every prefix. Assumes nothing.
 use Prim.Native.Nat.{ℕ}
 use mathlib.Core.Path.{_≡_, refl, ap}
-use mathlib.Core.Bool.{true, not, _||_}
 use mathlib.Core.List.{List, [], _∷_, _++_, map}
-use Rattle.quantity.specs.Lists.{all, any}
 use Rattle.state.specs.declared.Desk.{Desk}
 use Rattle.state.specs.declared.Held.{Held}
 use Rattle.state.specs.declared.Held.the-variants.{Absent, Has}
 use Rattle.state.specs.Desk.{versionsIn}
 use Rattle.state.specs.Version.{held}
 use Rattle.model.specs.Agreement.{Running, Chained, next, replies, end, fresh, Agree}
-use Rattle.model.specs.Call.{Call, opens, activates, deactivates, submits, notices, assigns, shows, asks, settles, Stores, Lengths, lengthsOf, Lent, told, causeNumber, telling}
-use Rattle.model.specs.Causes.{Rule}
-use Rattle.model.specs.Demands.{fits, isIn, Answered, Untouched, DemandOne, DemandTwo}
+use Rattle.model.specs.Call.{Call, opens, activates, deactivates, submits, notices, assigns, shows, asks, settles, Stores, Lent, told}
+use Rattle.model.specs.Demands.{Granted, Untouched, DemandOne, DemandTwo}
 use Rattle.model.specs.Plain.{plainReplies, plainEnd}
 use Rattle.model.specs.Step.{lines, statusAnswer, granting, refusalBy, decided, step}
 use Rattle.model.specs.declared.Answer.the-variants.{Refused}
@@ -20,48 +17,35 @@ use Rattle.model.specs.declared.Cause.{Cause}
 use Rattle.model.specs.declared.Ruling.{Ruling}
 use Rattle.model.specs.declared.Ruling.the-variants.{Fine, Refuse}
 use Rattle.model.proofs.Main.{agree}
-use Rattle.model.proofs.Rules.{not-refused, refused-among}
+use Rattle.model.proofs.Rules.{not-refused}
+use Rattle.model.proofs.TableLaw.{step-by-table}
 
 -- ---- demand 1
 
--- every rule of the call that can hold has a number that fits it
-listed : (d : Desk) (n : Lengths) (c : Call)
-    → all (λ (r : Rule). isIn (fits c) (causeNumber (r .cause)) || not (r .holds)) (lines d (telling n c)) ≡ true
-unfolding all any
-listed d n (opens q f c k gs) = refl
-listed d n (activates p k a b e) = refl
-listed d n (deactivates p e) = refl
-listed d n (submits p x e es) = refl
-listed d n (notices p x y e) = refl
-listed d n (assigns a g e) = refl
-listed d n (shows r g) = refl
-listed d n (asks p x) = refl
-listed d n (settles r e) = refl
+status-granted : (p x : ℕ) (h : Held) → Granted (asks p x) (statusAnswer h)
+unfolding statusAnswer
+status-granted p x Absent = tt
+status-granted p x (Has i s) = refl
 
-status-answered : (p x : ℕ) (h : Held) → Answered (asks p x) (statusAnswer h)
-unfolding statusAnswer any
-status-answered p x Absent = refl
-status-answered p x (Has i s) = refl
+granted-so : (d : Desk) (s : Stores) (c : Call) → Granted c (granting d s c .answer)
+granted-so d s (opens q f c k gs) = refl
+granted-so d s (activates p k a b e) = refl
+granted-so d s (deactivates p e) = refl
+granted-so d s (submits p x e es) = refl
+granted-so d s (notices p x y e) = refl
+granted-so d s (assigns a g e) = refl
+granted-so d s (shows r g) = refl
+granted-so d s (asks p x) = status-granted p x (held p x (versionsIn d))
+granted-so d s (settles r e) = refl
 
-granted-answered : (d : Desk) (s : Stores) (c : Call) → Answered c (granting d s c .answer)
-granted-answered d s (opens q f c k gs) = refl
-granted-answered d s (activates p k a b e) = refl
-granted-answered d s (deactivates p e) = refl
-granted-answered d s (submits p x e es) = refl
-granted-answered d s (notices p x y e) = refl
-granted-answered d s (assigns a g e) = refl
-granted-answered d s (shows r g) = refl
-granted-answered d s (asks p x) = status-answered p x (held p x (versionsIn d))
-granted-answered d s (settles r e) = refl
-
--- "gets an answer from the table of document 01"
-pub answers : (d : Desk) (l : Lent) → Answered (l .call) (step d l .answer)
-unfolding step decided refusalBy
-answers d l = go (refusalBy d (told l)) refl
+-- "A call accepted returns 0 (status: 1..5; show: the row)."
+granted : (d : Desk) (l : Lent) → Granted (l .call) (step d l .answer)
+unfolding step decided
+granted d l = go (refusalBy d (told l))
   where
-    go : (v : Ruling) → refusalBy d (told l) ≡ v → Answered (l .call) (decided v d (l .stores) (l .call) .answer)
-    go Fine e = granted-answered d (l .stores) (l .call)
-    go (Refuse x) e = refused-among (λ (c : Cause). isIn (fits (l .call)) (causeNumber c)) _ (listed d (lengthsOf (l .stores)) (l .call)) x e
+    go : (v : Ruling) → Granted (l .call) (decided v d (l .stores) (l .call) .answer)
+    go Fine = granted-so d (l .stores) (l .call)
+    go (Refuse x) = tt
 
 granted-keeps : (d : Desk) (s : Stores) (c : Call) (x : Cause) → granting d s c .answer ≡ Refused x → Untouched d s (granting d s c)
 granted-keeps d s (opens q f c k gs) x e = not-refused x e
@@ -84,7 +68,7 @@ refused-keeps d l x e = go (refusalBy d (told l)) e
     go (Refuse y) e = record { desk = refl; stores = refl; part = refl }
 
 pub demand-one : (d : Desk) (l : Lent) → DemandOne d l
-demand-one d l = record { answers = answers d l; keeps = refused-keeps d l }
+demand-one d l = record { answers = step-by-table d (l .stores) (l .call); granted = granted d l; keeps = refused-keeps d l }
 
 -- ---- demand 2, and every prefix
 

@@ -35,12 +35,11 @@ use Rattle.state.proofs.Limits.{means-series, means-valid}
 use Rattle.state.proofs.Picks.{best-highest}
 use Rattle.model.specs.Call.{Call, opens, activates, deactivates, submits, notices, assigns, shows, asks, settles, Stores, Lengths, lengthsOf, Lent, Told, told, causeNumber}
 use Rattle.model.specs.Causes.{Rule, terms, takes, rules, otherLengths, firstOf, opensOk, openingBy, submitOk, noticeOk, logFull, isAbsent, notCheck, refusal}
-use Rattle.model.specs.Demands.{order, fits, among}
 use Rattle.model.specs.Laws.{Passed, Decides, here, below}
 use Rattle.model.specs.Log.{due}
 use Rattle.model.specs.Plain.{versionsOf, viewIn, granted, answered, plainReply}
 use Rattle.model.specs.Step.{lines, step}
-use Rattle.model.specs.Table.{Table, end, line, FirstIs, NoneIs, ByTable, NoticeDue, NoneLeft, table, deskTable}
+use Rattle.model.specs.Table.{Table, end, line, numbersIn, order, among, FirstIs, NoneIs, ByTable, NoticeDue, NoneLeft, table, deskTable}
 use Rattle.model.specs.View.{View, viewOf}
 use Rattle.model.specs.declared.Answer.{Answer}
 use Rattle.model.specs.declared.Answer.the-variants.{Refused}
@@ -212,30 +211,18 @@ module _ (v : View) (n : Lengths) where
       run-in : not (runOk r && dayOk d) ≡ false → (r ≡ 1) ⊎ (r ≡ 2)
       run-in fields = means-run r .holds (and-left (runOk r) _ (not-false (runOk r && dayOk d) fields))
 
--- "only those that fit the call", from top to bottom: the numbers
-pub numbers : (v : View) (n : Lengths) (c : Call) → map (λ (r : Rule). causeNumber (r .cause)) (rules v n c) ≡ fits c
-numbers v n (opens q f c k gs) = refl
-numbers v n (activates p k a b d) = refl
-numbers v n (deactivates p d) = refl
-numbers v n (submits p x d es) = refl
-numbers v n (notices p x y d) = refl
-numbers v n (assigns a g d) = refl
-numbers v n (shows r g) = refl
-numbers v n (asks p x) = refl
-numbers v n (settles r d) = refl
-
--- they stand in the table's order
-pub in-order : (c : Call) → among order (fits c) ≡ fits c
+-- "only those that fit the call": the numbers of a call's lines stand in the order of the whole table
+pub in-order : (v : View) (n : Lengths) (c : Call) → among order (numbersIn (table v n c)) ≡ numbersIn (table v n c)
 unfolding any
-in-order (opens q f c k gs) = refl
-in-order (activates p k a b d) = refl
-in-order (deactivates p d) = refl
-in-order (submits p x d es) = refl
-in-order (notices p x y d) = refl
-in-order (assigns a g d) = refl
-in-order (shows r g) = refl
-in-order (asks p x) = refl
-in-order (settles r d) = refl
+in-order v n (opens q f c k gs) = refl
+in-order v n (activates p k a b d) = refl
+in-order v n (deactivates p d) = refl
+in-order v n (submits p x d es) = refl
+in-order v n (notices p x y d) = refl
+in-order v n (assigns a g d) = refl
+in-order v n (shows r g) = refl
+in-order v n (asks p x) = refl
+in-order v n (settles r d) = refl
 
 -- the stores that a call takes are those whose lengths are asked for: 2, of all but open
 pub taken-asked : (v : View) (n : Lengths) (c : Call) → terms c .opening ≡ false

@@ -1,49 +1,23 @@
 -- Demands 1 and 2 as statements on the desks.
 use Prim.Native.Nat.{ℕ, _*_, _≤_, _<_}
 use mathlib.Core.Path.{_≡_}
-use mathlib.Core.Bool.{Bool, true, false, cond}
-use mathlib.Core.List.{List, [], _∷_, _++_, map}
-use lib.Dec.{eqb}
+use mathlib.Core.Bool.{Bool, true, false}
+use mathlib.Core.List.{List, [], map}
 use lib.ListN.{take}
 use Rattle.quantity.specs.Limits.{runs, runRows}
-use Rattle.quantity.specs.Lists.{any}
 use Rattle.state.specs.Desk.{versionsIn}
 use Rattle.state.specs.Version.{held}
 use Rattle.state.specs.declared.Desk.{Desk}
 use Rattle.model.specs.Agreement.{fresh, replies, end, bookFigure}
-use Rattle.model.specs.Call.{Call, opens, activates, deactivates, submits, notices, assigns, shows, asks, settles, Stores, lengthsOf, Lent, told, causeNumber}
+use Rattle.model.specs.Call.{Call, opens, activates, deactivates, submits, notices, assigns, shows, asks, settles, Stores, lengthsOf, Lent, told}
 use Rattle.model.specs.Log.{logNumbers, logged}
 use Rattle.model.specs.Plain.{plainReplies, plainEnd, versionsOf, logOf, figure}
 use Rattle.model.specs.Step.{Outcome, step}
+use Rattle.model.specs.Table.{ByTable, deskTable}
 use Rattle.model.specs.declared.Answer.{Answer}
 use Rattle.model.specs.declared.Answer.the-variants.{Accepted, HasStatus, Refused}
 use Rattle.model.specs.declared.Cause.{Cause}
 use Rattle.model.specs.declared.Due.{Due}
-
--- "Checks go down the table": its numbers from top to bottom
-abbrev pub order : List ℕ
-order = 1 ∷ 2 ∷ 3 ∷ 6 ∷ 4 ∷ 5 ∷ 11 ∷ 26 ∷ 21 ∷ 22 ∷ 12 ∷ 23 ∷ 13 ∷ 14 ∷ 15 ∷ 24 ∷ 25 ∷ 16 ∷ 17 ∷ 27 ∷ 28 ∷ 29 ∷ []
-
--- "only those that fit the call": the numbers that a call may be refused with, in the order of the checks
-abbrev pub fits : Call → List ℕ
-fits (opens q f c k gs) = 6 ∷ 4 ∷ []
-fits (activates p k a b d) = 1 ∷ 3 ∷ 5 ∷ 11 ∷ 21 ∷ 22 ∷ []
-fits (deactivates p d) = 1 ∷ 3 ∷ 5 ∷ 11 ∷ 12 ∷ 23 ∷ []
-fits (submits p x d es) = 1 ∷ 2 ∷ 3 ∷ 5 ∷ 11 ∷ 12 ∷ 13 ∷ 14 ∷ 15 ∷ 16 ∷ 17 ∷ []
-fits (notices p x y d) = 1 ∷ 2 ∷ 3 ∷ 5 ∷ 11 ∷ 12 ∷ 24 ∷ 25 ∷ 17 ∷ []
-fits (assigns a g d) = 1 ∷ 2 ∷ 3 ∷ 5 ∷ 26 ∷ []
-fits (shows r g) = 1 ∷ 2 ∷ 3 ∷ []
-fits (asks p x) = 1 ∷ 3 ∷ 12 ∷ 24 ∷ []
-fits (settles r d) = 1 ∷ 3 ∷ 5 ∷ 27 ∷ 28 ∷ 29 ∷ []
-
--- a number of the list
-abbrev pub isIn : List ℕ → ℕ → Bool
-isIn l n = any (eqb n) l
-
--- those of a list that stand in another, in the order of the first
-abbrev pub among : (l other : List ℕ) → List ℕ
-among [] m = []
-among (n ∷ l) m = cond (isIn m n) (n ∷ []) [] ++ among l m
 
 -- "A call accepted returns 0 (status: 1..5; show: the row)."
 abbrev pub asksStatus : Call → Bool
@@ -57,11 +31,11 @@ asksStatus (shows r g) = false
 asksStatus (asks p x) = true
 asksStatus (settles r d) = false
 
--- "gets an answer from the table of document 01": 0, of status a status, or the number of a cause that fits the call
-abbrev pub Answered : Call → Answer → Type 0
-Answered c Accepted = asksStatus c ≡ false
-Answered c (HasStatus s) = asksStatus c ≡ true
-Answered c (Refused x) = isIn (fits c) (causeNumber x) ≡ true
+-- accepted with 0, and of status with a status
+abbrev pub Granted : Call → Answer → Type 0
+Granted c Accepted = asksStatus c ≡ false
+Granted c (HasStatus s) = asksStatus c ≡ true
+Granted c (Refused x) = Unit {0}
 
 -- "a refused call leaves the desk, value store, book, log and output as they were"; "A refused show returns an empty part too"
 pub record Untouched (d : Desk) (s : Stores) (o : Outcome) : Type 0 where
@@ -71,7 +45,9 @@ pub record Untouched (d : Desk) (s : Stores) (o : Outcome) : Type 0 where
 
 -- demand 1: "Whoever calls the desk, with any numbers, series, bytes or stores, open or not"
 pub record DemandOne (d : Desk) (l : Lent) : Type 0 where
-  pub answers : Answered (l .call) (step d l .answer)
+  -- "gets an answer from the table of document 01"
+  pub answers : ByTable (deskTable d (lengthsOf (l .stores)) (l .call)) (step d l .answer)
+  pub granted : Granted (l .call) (step d l .answer)
   pub keeps : (x : Cause) → step d l .answer ≡ Refused x → Untouched d (l .stores) (step d l)
 
 -- demand 2: "From a fresh desk on, while nobody else writes in it or in its stores, every answer, data status, log row and book figure is

@@ -2,11 +2,13 @@
 -- share, the tests of `terms`, is judged by it.
 use Prim.Native.Nat.{ℕ, _+_, _*_, _%_, _≤_, _<_}
 use mathlib.Core.Path.{_≡_}
-use mathlib.Core.Bool.{true, false}
+use mathlib.Core.Bool.{true, false, cond}
 use mathlib.Core.Logic.{_⊎_}
-use mathlib.Core.List.{List}
+use mathlib.Core.List.{List, [], _∷_, _++_}
+use lib.Dec.{eqb}
 use lib.IntN.{ℤ, pos, natAbs}
 use lib.ListN.{length, getD}
+use Rattle.quantity.specs.Lists.{any}
 use Rattle.quantity.specs.Meaning.{Between, Each, Among}
 use Rattle.state.specs.Point.{freePoint}
 use Rattle.state.specs.Status.{statusNumber}
@@ -27,6 +29,20 @@ use Rattle.model.specs.declared.Cause.{Cause}
 pub data Table : Type 1 where
   end : Table
   line : (number : ℕ) → (when : Type 0) → Table → Table
+
+-- the numbers of the lines, from top to bottom
+abbrev pub numbersIn : Table → List ℕ
+numbersIn end = []
+numbersIn (line m P t) = m ∷ numbersIn t
+
+-- "Checks go down the table": all its numbers, from top to bottom
+abbrev pub order : List ℕ
+order = 1 ∷ 2 ∷ 3 ∷ 6 ∷ 4 ∷ 5 ∷ 11 ∷ 26 ∷ 21 ∷ 22 ∷ 12 ∷ 23 ∷ 13 ∷ 14 ∷ 15 ∷ 24 ∷ 25 ∷ 16 ∷ 17 ∷ 27 ∷ 28 ∷ 29 ∷ []
+
+-- those of a list that stand in another, in the order of the first
+abbrev pub among : (l other : List ℕ) → List ℕ
+among [] m = []
+among (n ∷ l) m = cond (any (eqb n) m) (n ∷ []) [] ++ among l m
 
 -- "the first that holds decides": a line of the number holds, and none above it
 abbrev pub FirstIs : Table → ℕ → Type 0

@@ -85,13 +85,6 @@ module _ {A B : Type 0} (f : B → A → B) where
   fold-snoc b [] y = refl
   fold-snoc b (x ∷ xs) y = fold-snoc (f b x) xs y
 
-  pub fold-none : (b : B) (l : List A) → b ≡ fold f b (take 0 l)
-  unfolding fold
-  fold-none b l = refl
-
-  pub fold-more : (b : B) (l : List A) (i : ℕ) (d : A) → i < length l → f (fold f b (take i l)) (getD l i d) ≡ fold f b (take (i + 1) l)
-  fold-more b l i d h = rw (add-one, take-suc l i d, fold-snoc b (take i l) (getD l i d))
-
   -- a change of the elements that the step does not see
   pub fold-map : (g : A → A) → ((b : B) (x : A) → f b (g x) ≡ f b x) → (b : B) (l : List A) → fold f b (map g l) ≡ fold f b l
   unfolding fold

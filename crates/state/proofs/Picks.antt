@@ -85,9 +85,6 @@ module _ (f : VersionRecord → Bool) (vs : List VersionRecord) where
       (λ s i _ h. by-test (Highest f vs (suc i)) (f (recordAt vs i)) (raise s (rowAt i (recordAt vs i))) s (λ t. raise-right s i t h) (λ t. keep-right s i t h))
       None (λ j k. absurd (omega arith))
 
-  pub best-at : (r : VersionRow) → best f vs ≡ Selected r → IsHighest f vs (length vs) r
-  best-at r e = subst (Highest f vs (length vs)) e best-highest
-
   -- one record more
   pub best-last : (v : VersionRecord) → best f (submitted v vs) ≡ raiseIf f (best f vs) (length vs) v
   unfolding best

@@ -24,11 +24,6 @@ module _ (ps : List PointRecord) where
   put-at zero r h = absurd (omega arith)
   put-at (suc i) r h = ap (λ (k : ℕ). set ps k r) (omega arith)
 
-  -- past the table nothing is set
-  pub put-past : (p : ℕ) (r : PointRecord) → length ps < p → withPoint ps p r ≡ ps
-  put-past zero r h = refl
-  put-past (suc i) r h = set-out ps i r (omega arith)
-
   -- a point set has its new state
   pub put-same : (p : ℕ) (r : PointRecord) → 0 < p → p ≤ length ps → pointAt (withPoint ps p r) p ≡ r .state
   put-same zero r h k = absurd (omega arith)
