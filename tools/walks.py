@@ -6,7 +6,6 @@
 
     crates/entry/proofs/open/open/Proof.antt
     crates/entry/proofs/apply/apply/Proof.antt
-    crates/test_drive/proofs/via/via_open/Proof.antt
     crates/test_drive/proofs/via/via_apply/Proof.antt
 
 Run it where a function's parameters change. It reads them from the crates' sources; the same sources give the same files. Two forms are known:
@@ -26,7 +25,7 @@ from pathlib import Path
 ROOT = Path(__file__).resolve().parent.parent
 ENTRY = 'entry'
 # a function, its crate and its module there
-WALKS = {'open': (ENTRY, 'open'), 'apply': (ENTRY, 'apply'), 'via_open': ('test_drive', 'via'), 'via_apply': ('test_drive', 'via')}
+WALKS = {'open': (ENTRY, 'open'), 'apply': (ENTRY, 'apply'), 'via_apply': ('test_drive', 'via')}
 
 
 # ---- what the sources say
@@ -688,8 +687,11 @@ def proof(name, folder):
 
 
 def main():
-    if len(sys.argv) > 2:
-        sys.exit('usage: python3 tools/walks.py [FOLDER]')
+    if sys.argv[1:] in (['-h'], ['--help']):
+        sys.exit(print(__doc__.strip()))
+    if len(sys.argv) > 2 or sys.argv[1:2] and sys.argv[1].startswith('-'):
+        print('usage: python3 tools/walks.py [FOLDER]', file=sys.stderr)
+        sys.exit(2)
     folder = Path(sys.argv[1]) if len(sys.argv) == 2 else ROOT
     for name in WALKS:
         proof(name, folder)

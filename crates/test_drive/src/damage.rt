@@ -9,10 +9,12 @@ use state::Area;
 use state::Desk;
 use state::Frame;
 use state::Kind;
+use state::Opening;
 use state::Partner;
 use state::PointRecord;
 use state::PointState;
 use state::Row;
+use state::Runs;
 use state::ShortDay;
 use state::ShortPoint;
 use state::Status;
@@ -21,57 +23,68 @@ use state::VersionRecord;
 // How many values two bytes have.
 const SHORT: u64 = BYTE * BYTE;
 
-// The desk with another frame.
-fn with_frame(d: Desk, frame: Frame) -> Desk {
-    let mut r = d;
-    r.frame = frame;
-    r
+fn one_of(first: bool, a: u64, b: u64) -> u64 {
+    if first { a } else { b }
 }
 
 // A field that the opening fixed.
-fn with_opening(d: Desk, which: u64, a: u64) -> Desk {
-    let mut frame = d.frame;
-    let mut o = frame.opening;
-    let day = Day(a);
-    match which {
-        1 => o.quarters = a,
-        2 => o.first = day,
-        3 => o.clearing = day,
-        4 => o.correction = day,
-        5 => o.values = a,
-        6 => o.book = a,
-        7 => o.log = a,
-        _ => {}
+fn with_opening(o: Opening, which: u64, a: u64) -> Opening {
+    Opening {
+        quarters: one_of(which == 1, a, o.quarters),
+        first: Day(one_of(which == 2, a, o.first.0)),
+        clearing: Day(one_of(which == 3, a, o.clearing.0)),
+        correction: Day(one_of(which == 4, a, o.correction.0)),
+        values: one_of(which == 5, a, o.values),
+        book: one_of(which == 6, a, o.book),
+        log: one_of(which == 7, a, o.log),
     }
-    frame.opening = o;
-    with_frame(d, frame)
 }
 
-// The day, a count or a flag.
-fn with_count(d: Desk, which: u64, a: u64) -> Desk {
-    let mut frame = d.frame;
-    let day = Day(a);
-    let mut runs = frame.settled;
-    match which {
-        8 => frame.day = day,
-        10 => frame.count = a,
-        11 => frame.used = a,
-        12 => runs.first = a != 0,
-        13 => runs.second = a != 0,
-        _ => {}
+// A flag.
+fn with_flag(r: Runs, which: u64, flag: bool) -> Runs {
+    if which == 12 {
+        return Runs {
+            first: flag,
+            second: r.second,
+        };
     }
-    frame.settled = runs;
-    with_frame(d, frame)
+    if which == 13 {
+        return Runs {
+            first: r.first,
+            second: flag,
+        };
+    }
+    r
 }
 
 // A delta group.
-fn with_group(d: Desk, place: u64, a: u64) -> Desk {
-    let mut frame = d.frame;
-    if place < DELTAS {
-        let i = place as usize;
-        frame.groups[i] = a;
+fn with_group(
+    groups: [u64; DELTAS as usize],
+    which: u64,
+    place: u64,
+    a: u64,
+) -> [u64; DELTAS as usize] {
+    let mut r = groups;
+    if (which == 9) & (place < DELTAS) {
+        let i = (place % DELTAS) as usize;
+        r[i] = a;
     }
-    with_frame(d, frame)
+    r
+}
+
+// A field beside the tables.
+fn with_frame(f: Frame, which: u64, place: u64, a: u64) -> Frame {
+    let opening = f.opening;
+    let groups = f.groups;
+    let settled = f.settled;
+    Frame {
+        opening: with_opening(opening, which, a),
+        day: Day(one_of(which == 8, a, f.day.0)),
+        groups: with_group(groups, which, place, a),
+        count: one_of(which == 10, a, f.count),
+        used: one_of(which == 11, a, f.used),
+        settled: with_flag(settled, which, a != 0),
+    }
 }
 
 // A point.
@@ -113,11 +126,7 @@ fn with_version(d: Desk, place: u64, version: u64, point: u64, row: u64, status:
 
 // The field by its number; another number changes nothing.
 pub fn damaged(d: Desk, which: u64, place: u64, a: u64, b: u64, c: u64, e: u64) -> Desk {
-    if which < 8 {
-        return with_opening(d, which, a);
-    }
     match which {
-        9 => with_group(d, place, a),
         14 => with_point(d, place, PointState::Free),
         15 => {
             let active = PointState::Active {
@@ -129,6 +138,11 @@ pub fn damaged(d: Desk, which: u64, place: u64, a: u64, b: u64, c: u64, e: u64) 
             with_point(d, place, active)
         }
         16 => with_version(d, place, a, b, c, e),
-        _ => with_count(d, which, a),
+        _ => {
+            let frame = d.frame;
+            let mut r = d;
+            r.frame = with_frame(frame, which, place, a);
+            r
+        }
     }
 }

@@ -3,27 +3,19 @@ use crate::Ran;
 use crate::Room;
 use crate::damage::damaged;
 use crate::via::via_apply;
-use crate::via::via_open;
 use amend::copies::copy_row;
 use calls::show::show_number;
 use calls::show::show_row;
 use calls::status::status;
 use checks::Outcome;
 use checks::numbers::cause_number;
-use message::DeskCall;
 use message::Named;
-use message::call::ACTIVATION;
 use message::call::ASSIGNMENT;
-use message::call::DEACTIVATION;
 use message::call::MOST_FIELDS;
-use message::call::NOTICE;
-use message::call::OPENING;
 use message::call::SETTLEMENT;
-use message::call::SUBMISSION;
 use message::call::call_of;
 use message::call::groups_of;
 use model::Answer;
-use quantity::Day;
 use quantity::PointNo;
 use quantity::Version;
 use state::Desk;
@@ -35,36 +27,29 @@ ghost use Prim.Native.Nat.{_≤_};
 ghost use lib.ListN.{length};
 
 // Records by their numbers: the nine calls by document 01's, and damage.
-const OPEN: u64 = 1;
-
 const SUBMIT: u64 = 4;
 
 const SHOW: u64 = 7;
 
 const STATUS: u64 = 8;
 
+const SETTLE: u64 = 9;
+
 const DAMAGE: u64 = 10;
+
+// How many numbers a record has, from number 0 on: the call's, behind its number and the three lengths, a submission's energies apart.
+const SIZES: [usize; 11] = [0, 25, 9, 6, 8, 8, 7, 6, 6, 6, 10];
 
 // What a script adds to an accepted status.
 const STATUS_FROM: u64 = 100;
 
-// How many numbers a record has, a submission's energies apart: the call's, behind its number and the three lengths. 0 for what is no record.
-fn size_of(op: u64) -> usize
-    ensures { λ r. ⌜ r ≤ 25 ⌝ }
-{
-    match op {
-        1 => 25,
-        2 => 9,
-        3 => 6,
-        4 => 8,
-        5 => 8,
-        6 => 7,
-        7 => 6,
-        8 => 6,
-        9 => 6,
-        10 => 10,
-        _ => 0,
+// 0 for what is no record.
+fn size_of(op: u64) -> usize {
+    if op <= DAMAGE {
+        let i = op as usize;
+        return SIZES[i];
     }
+    0
 }
 
 // The length of the record at the head of what is left of a script; 0 where there is none, or it is cut short.
@@ -95,46 +80,15 @@ fn fields_in(record: &[u64]) -> [u64; MOST_FIELDS] {
     pad_fields(&record[4..])
 }
 
-// The kind under which a message file has the call; 0, which is no kind, for one that changes nothing and for what is no call.
+// The kind under which a message file has the call: up to assign the same number; 0, which is no kind, for one that changes nothing and for what is no call.
 fn kind_in_file(op: u64) -> u64 {
-    match op {
-        1 => OPENING,
-        2 => ACTIVATION,
-        3 => DEACTIVATION,
-        4 => SUBMISSION,
-        5 => NOTICE,
-        6 => ASSIGNMENT,
-        9 => SETTLEMENT,
-        _ => 0,
+    if op <= ASSIGNMENT {
+        return op;
     }
-}
-
-// A call that changes the desk goes through the entries over the lent state: an opening through its own, another through the one for all.
-fn enter(
-    d: Desk,
-    call: DeskCall,
-    op: u64,
-    f: [u64; MOST_FIELDS],
-    series: &[u64],
-    values: &mut [u64],
-    book: &mut [u64],
-    log: &mut [u64],
-) -> Outcome {
-    let groups = groups_of(f);
-    if op == OPEN {
-        return via_open(
-            d,
-            f[0],
-            Day(f[1]),
-            Day(f[2]),
-            Day(f[3]),
-            groups,
-            values,
-            book,
-            log,
-        );
+    if op == SETTLE {
+        return SETTLEMENT;
     }
-    via_apply(d, call, groups, series, values, book, log)
+    0
 }
 
 // A number into a place of an output, and the place behind it; the same place where the output ends there.
@@ -192,7 +146,7 @@ fn answered(o: Outcome, out: &mut [u64], at: usize) -> Ran {
     Ran { desk, next }
 }
 
-// A call with its stores. What is no call is not run.
+// A call with its stores: one that changes the desk goes through the entry over the lent state. What is no call is not run.
 fn run_call(
     d: Desk,
     record: &[u64],
@@ -212,13 +166,22 @@ fn run_call(
         return answered(status(d, PointNo(f[0]), Version(f[1])), out, at);
     }
     match call_of(kind_in_file(op), f) {
-        Named::Known(call) => answered(
-            enter(d, call, op, f, series_in(record), values, book, log),
-            out,
-            at,
-        ),
+        Named::Known(call) => {
+            let groups = groups_of(f);
+            let series = series_in(record);
+            let o = via_apply(d, call, groups, series, values, book, log);
+            answered(o, out, at)
+        }
         Named::Unknown => Ran { desk: d, next: at },
     }
+}
+
+// The first n numbers of a store; all of them where it has fewer.
+fn first_of(store: &mut [u64], n: usize) -> &mut [u64] {
+    if store.len() < n {
+        return store;
+    }
+    &mut store[0..n]
 }
 
 // A record that fits the stores.
@@ -239,21 +202,12 @@ fn run_record(
     let v = field_at(record, 1) as usize;
     let b = field_at(record, 2) as usize;
     let l = field_at(record, 3) as usize;
-    if values.len() < v {
-        return Ran { desk: d, next: at };
-    }
-    if book.len() < b {
-        return Ran { desk: d, next: at };
-    }
-    if log.len() < l {
-        return Ran { desk: d, next: at };
-    }
     run_call(
         d,
         record,
-        &mut values[0..v],
-        &mut book[0..b],
-        &mut log[0..l],
+        first_of(values, v),
+        first_of(book, b),
+        first_of(log, l),
         out,
         at,
     )

@@ -1,44 +1,13 @@
-// The way back from the lent desk: the state by value to the entries and out of them again.
+// The way back from the lent desk: the state by value to the entry and out of it again.
 use checks::Outcome;
 use entry::apply::apply;
-use entry::open::open;
 use message::DeskCall;
-use quantity::Day;
 use quantity::limits::DELTAS;
 use state::Desk;
 ghost use mathlib.Core.List.{map};
 ghost use Rattle.quantity.specs.Word.{signed};
-ghost use Rattle.model.specs.Call.{opens};
 ghost use Rattle.checks.specs.Stepped.{Stepped};
 ghost use Rattle.dispatch.specs.Asked.{asked};
-
-pub fn via_open(
-    d: Desk,
-    quarters: u64,
-    first: Day,
-    clearing: Day,
-    correction: Day,
-    groups: [u64; DELTAS as usize],
-    values: &[u64],
-    book: &mut [u64],
-    log: &[u64],
-) -> Outcome
-    ensures { λ r. ⌜ Stepped d (opens quarters (first .0) (clearing .0) (correction .0) groups) (now (values .entry)) (now (book .entry)) (now (log .entry)) (r .answer) (r .desk) (now (values .entry)) (now (book .exit)) (now (log .entry)) ⌝ }
-{
-    let mut e = d;
-    let a = open(
-        &mut e,
-        quarters,
-        first,
-        clearing,
-        correction,
-        groups,
-        values,
-        book,
-        log,
-    );
-    Outcome { answer: a, desk: e }
-}
 
 pub fn via_apply(
     d: Desk,
