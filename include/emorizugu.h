@@ -25,7 +25,7 @@ extern "C" {
 #endif
 
 /* The version of these entries. It rises with every change that a host notices; emorizugu_version() is the library's. */
-#define EMORIZUGU_VERSION 2
+#define EMORIZUGU_VERSION 3
 
 /* Answers: accepted, and the causes of a refusal in the order in which they are checked. docs/CAUSES.md has them in words. */
 #define EMORIZUGU_ACCEPTED         0
@@ -56,6 +56,7 @@ extern "C" {
 #define EMORIZUGU_BAD_KIND         33  /* file: a call's kind is not 1 to 7 */
 #define EMORIZUGU_TOO_LARGE        34  /* file: more than 2,980 energies; write: a number that a file cannot carry */
 #define EMORIZUGU_NO_ROOM          35  /* file: a lent buffer, output or answers too short */
+#define EMORIZUGU_NO_DATE          36  /* calendar: no such month or date of 2020 to 2059, or no number from 0 to 400 */
 
 /* Ranges: quarter hours of a month, runs, balance groups, each counted from 1; and the bytes of a book a quarter hour. */
 #define EMORIZUGU_QUARTERS 2980
@@ -234,6 +235,35 @@ uint64_t emorizugu_read(const uint8_t *file, size_t length, uint64_t start, uint
 uint64_t emorizugu_write(uint64_t kind, const uint64_t *fields, size_t fields_length, const uint64_t *series,
                          size_t series_length, uint8_t *output, size_t output_length, uint64_t *size,
                          size_t size_length);
+
+/*
+ * The calendar. Working days of 2020 to 2059 are all but Saturdays, Sundays, 24 and 31 December and every public holiday
+ * of any federal state. Year and month name the settled month; a date's number counts the working days after that month up to and
+ * including the date, so its last day has 0, and a day off has the number of the working day before it.
+ *
+ * Whether a date has a number: 36 where the settled month or the date does not exist or lies outside 2020 to 2059, where
+ * the date lies before the month's last day, or where its number would be above 400; else 0.
+ */
+uint64_t emorizugu_day_refusal(uint64_t year, uint64_t month, uint64_t date_year, uint64_t date_month,
+                               uint64_t date_day);
+
+/* The number, 0 to 400. It is 0 where emorizugu_day_refusal is 36; since 0 is also a number, ask for the refusal first. */
+uint64_t emorizugu_day(uint64_t year, uint64_t month, uint64_t date_year, uint64_t date_month, uint64_t date_day);
+
+/*
+ * Whether a day number has a date: 36 where the settled month does not exist or lies outside 2020 to 2059, where the
+ * number is above 400, or where its date would lie behind 2059; else 0.
+ */
+uint64_t emorizugu_date_refusal(uint64_t year, uint64_t month, uint64_t day);
+
+/*
+ * The first date with that number, as year x 10,000 + month x 100 + day (12 November 2026 is 20261112): the working day
+ * itself, and for 0 the settled month's last day. 0 where emorizugu_date_refusal is 36.
+ */
+uint64_t emorizugu_date(uint64_t year, uint64_t month, uint64_t day);
+
+/* The weekday of a date, 1 for Monday to 7 for Sunday; 0 where the date does not exist or lies outside 2020 to 2059. */
+uint64_t emorizugu_weekday(uint64_t year, uint64_t month, uint64_t day);
 
 #ifdef __cplusplus
 }

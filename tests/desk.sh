@@ -1,6 +1,6 @@
 #!/usr/bin/env bash
-# Tests of ./desk: a clerk's mistakes with the words for them, text and message files, lists and their forms, the page, streams and terminals,
-# a month of 2,976 quarter hours; the table of causes against the header and the library.
+# Tests of ./desk: a clerk's mistakes with the words for them, text and message files, days and dates, lists and their forms, the page, streams and
+# terminals, a month of 2,976 quarter hours; the table of causes against the header and the library.
 # Writes under target/ only. Builds the program first where it is missing or old.
 set -u
 cd "$(dirname "$0")/.." || exit 2
@@ -17,13 +17,13 @@ OPEN='open quarters=2 first=10 clearing=30 correction=150 T=4 1=1 2=2 others=3'
 
 # ---- refusals in words
 
-# refusal WORDS MEND LINE..: behind an opening and the lines, the last one is refused so.
+# refusal WORDS MEND LINE..: behind an opening and the lines, the last one is refused so. Where `known` names a month, it is run with that.
 refusal() {
     local why=$1 mend=$2 lines
     shift 2
     { echo "$OPEN" && printf '%s\n' "$@"; } >"$work/one.calls"
     lines=$(($# + 1))
-    ./desk run "$work/one.calls" >"$work/out" 2>&1
+    ./desk run "$work/one.calls" ${known:+--month "$known"} >"$work/out" 2>&1
     if [ $? -eq 1 ] && grep -qxF "line $lines, call $lines: $why" "$work/out" && grep -qxF "    to mend it: $mend" "$work/out"; then
         pass "refused: $why"
     else
@@ -69,6 +69,8 @@ refusals() {
         "$sent" 'submit point=1 version=1 day=2 energies=1,2'
     refusal 'notice point 1 version 3: refused, 24: point 1 has no version 3: its highest is 2, of line 3' 'name a version that was submitted' \
         "$active" "$sent" 'notice point=1 version=3 verdict=positive day=12'
+    refusal 'notice point 1 version 2: refused, 24: point 1 has no version 2: its submission in line 3 was refused, 13' 'correct line 3' "$active" \
+        'submit point=1 version=2 day=1 energies=1,2' 'notice point=1 version=2 verdict=positive day=12'
     refusal 'notice point 1 version 2: refused, 25: version 2 is no check data: line 3 submitted it on day 2, and the first delivery lasts to day 10' \
         'nothing: it counts without a notice' "$active" "$sent" 'notice point=1 version=2 verdict=positive day=12'
     refusal 'settle run 1: refused, 27: day 30 does not lie behind the clearing deadline, day 30 (line 1)' 'settle run 1 on day 31 or later' \
@@ -79,18 +81,38 @@ refusals() {
         'settle run=2 day=151'
 }
 
-# One typed day, 40 for 4, refuses what follows; the desk says where all of it comes from.
+# Where the month is known, each day in the words has its date.
+dated_refusals() {
+    local known=2026-07 active='activate point=1 kind=exchange area=1 partner=outside day=0' sent='submit point=1 version=2 day=2 energies=1,2'
+    refusal "submit point 4 version 2: refused, 5: day 5 (2026-08-07) lies before the desk's day 40 (2026-09-25), which line 2 set" \
+        'give it day 40 (2026-09-25) or later; if day 40 is a mistake, correct line 2' \
+        'activate point=4 kind=group-sum area=1 partner=5 day=40' 'submit point=4 version=2 day=5 energies=1,2'
+    refusal 'activate point 300: refused, 3: point 300 is not 1 to 256; day 500 is not 0 to 400' 'correct what is named' \
+        'activate point=300 kind=1 area=1 partner=0 day=500'
+    refusal 'submit point 1 version 2: refused, 11: day 151 (2027-03-10) lies behind the correction deadline, day 150 (2027-03-09, line 1)' \
+        'the last day for it is 150 (2027-03-09); correct the day, or leave the call out' "$active" 'submit point=1 version=2 day=151 energies=1,2'
+    refusal 'submit point 1 version 1: refused, 13: day 1 (2026-08-03) lies less than two days after day 0 (2026-07-31), on which line 2 activated point 1' \
+        'submit on day 2 (2026-08-04) or later' "$active" 'submit point=1 version=1 day=2026-08-03 energies=1,2'
+    refusal 'notice point 1 version 2: refused, 25: version 2 is no check data: line 3 submitted it on day 2 (2026-08-04), and the first delivery lasts to day 10 (2026-08-14)' \
+        'nothing: it counts without a notice' "$active" "$sent" 'notice point=1 version=2 verdict=positive day=2026-08-18'
+    refusal 'settle run 1: refused, 27: day 30 (2026-09-11) does not lie behind the clearing deadline, day 30 (2026-09-11, line 1)' \
+        'settle run 1 on day 31 (2026-09-14) or later' 'settle run=1 day=2026-09-11'
+    has 'refused: an opening, with dates' 1 'refused, 4: deadlines 3 \(2026-08-05\), 2 \(2026-08-04\), 9 \(2026-08-13\) do not rise from 1 to 399$' \
+        ./desk run --month 2026-07 <(echo 'open quarters=1 first=3 clearing=2026-08-04 correction=9 others=1')
+}
+
+# One typed date, October for August, refuses what follows; the desk says where all of it comes from.
 typed_day() {
     local file
-    file=$(sed '17s/day=4 /day=40 /' examples/july.calls | text typed.calls)
+    file=$(sed '19s/day=2026-08-06 /day=2026-10-06 /' examples/july.calls | text typed.calls)
     cp examples/july.csv "$work"
     ./desk run "$file" >"$work/out" 2>&1
-    [ $? -eq 1 ] && grep -qxF "line 18, call 10: submit point 2 version 1: refused, 5: day 4 lies before the desk's day 40, which line 17 set" "$work/out" &&
-        grep -qxF '    to mend it: give it day 40 or later; if day 40 is a mistake, correct line 17' "$work/out" &&
-        grep -qxF 'line 30, call 20: notice point 7 version 2: refused, 24: point 7 has no version 2: its submission in line 28 was refused, 5' "$work/out" &&
-        grep -qxF '12 of these come from line 17: submit point 1 version 1; look there first' "$work/out" &&
-        grep -qxF '21 calls, 12 refused; day 40; no run settled; 2976 quarter hours' "$work/out" &&
-        grep -qxF 'the first refused: line 18, call 10' "$work/out"
+    [ $? -eq 1 ] && grep -qxF "line 20, call 10: submit point 2 version 1: refused, 5: day 4 (2026-08-06) lies before the desk's day 47 (2026-10-06), which line 19 set" "$work/out" &&
+        grep -qxF '    to mend it: give it day 47 (2026-10-06) or later; if day 47 is a mistake, correct line 19' "$work/out" &&
+        grep -qxF 'line 33, call 21: settle run 2: refused, 29: run 1 is not settled: its settlement in line 31 was refused, 5' "$work/out" &&
+        grep -qxF '12 of these come from line 19: submit point 1 version 1; look there first' "$work/out" &&
+        grep -qxF '21 calls, 12 refused; day 47 (2026-10-06); no run settled; 2976 quarter hours' "$work/out" &&
+        grep -qxF 'the first refused: line 20, call 10' "$work/out"
 }
 
 # The 513th version.
@@ -139,7 +161,7 @@ run,quarter,group,figure
 END
     expect 'log as json, of a month with a refused call' 1 ./desk log examples/example.msg --json <<END
 [
-{"row":1,"day":2,"point":1,"run":1,"version":7}
+{"row":1,"day":2,"date":null,"point":1,"run":1,"version":7}
 ]
 ! desk: examples/example.msg: 1 of 4 calls were refused; \`desk run\` says which and why
 END
@@ -161,19 +183,20 @@ settle run=1 day=31
 END
     )
     expect 'points: one order, statuses, what counts' 0 ./desk points "$file" <<END
-point  kind            area  partner  since         version  status                      run 1  run 2
-    1  exchange           1        0      0               5  settlement data             no     no
-    1  exchange           1        0      0               7  settled                     yes    yes
-    2  group-sum          1        5      0              10  settled                     yes    no
-    2  group-sum          1        5      0              11  correction settlement data  no     yes
+point  kind            area  partner  since  since date         version  status                      run 1  run 2
+    1  exchange           1        0      0                           5  settlement data             no     no
+    1  exchange           1        0      0                           7  settled                     yes    yes
+    2  group-sum          1        5      0                          10  settled                     yes    no
+    2  group-sum          1        5      0                          11  correction settlement data  no     yes
 END
     expect 'points as csv' 0 ./desk points "$file" --csv <<END
-point,kind,area,partner,since,version,status,run_1,run_2
-1,exchange,1,0,0,5,settlement data,no,no
-1,exchange,1,0,0,7,settled,yes,yes
-2,group-sum,1,5,0,10,settled,yes,no
-2,group-sum,1,5,0,11,correction settlement data,no,yes
+point,kind,area,partner,since,since_date,version,status,run_1,run_2
+1,exchange,1,0,0,,5,settlement data,no,no
+1,exchange,1,0,0,,7,settled,yes,yes
+2,group-sum,1,5,0,,10,settled,yes,no
+2,group-sum,1,5,0,,11,correction settlement data,no,yes
 END
+    dated_lists "$file"
     expect 'run: changes of selections stand in the summary' 0 ./desk run "$file" <<END
 9 calls, none refused; day 31; run 1 settled; 2 quarter hours
 
@@ -187,46 +210,83 @@ group               run 1, Wh               run 2, Wh          difference, Wh
 END
     picks "$file"
     holds 'lists: the same rows in each form' python3 tests/forms.py ./desk "$file"
+    holds 'lists: the same rows in each form, with dates' python3 tests/forms.py ./desk "$file" --month 2026-07
     holds 'page: changes of selections' grep -q '<li>day 31: point 2, run 2: version 11 in the place of 10, which run 1 selects</li>' <(./desk page "$file")
+}
+
+# The same lists where the month is known: of a message file too.
+dated_lists() {
+    local file=$1
+    ./desk pack "$file" -o "$work/two.msg"
+    expect 'points: dates' 0 ./desk points "$work/two.msg" --month 2026-07 --run 1 <<END
+point  kind            area  partner  since  since date         version  status                      run 1  run 2
+    1  exchange           1        0      0  2026-07-31               7  settled                     yes    yes
+    2  group-sum          1        5      0  2026-07-31              10  settled                     yes    no
+END
+    expect 'points as csv: dates' 0 ./desk points "$work/two.msg" --month=2026-07 --group 5 --csv <<END
+point,kind,area,partner,since,since_date,version,status,run_1,run_2
+2,group-sum,1,5,0,2026-07-31,10,settled,yes,no
+2,group-sum,1,5,0,2026-07-31,11,correction settlement data,no,yes
+END
+    expect 'log: dates' 0 ./desk log "$work/two.msg" --month 2026-07 --run 1 <<END
+ row  day  date        point  run         version
+   1    2  2026-08-04      2    1              10
+   2    2  2026-08-04      1    1               5
+   3    9  2026-08-13      1    1               7
+END
+    expect 'log as json: a day without a date' 0 ./desk log "$work/two.msg" --month 2059-11 --group 5 --json <<END
+[
+{"row":1,"day":2,"date":"2059-12-02","point":2,"run":1,"version":10},
+{"row":4,"day":31,"date":null,"point":2,"run":2,"version":11}
+]
+END
+    holds 'figures: a month does not change them' cmp <(./desk figures "$work/two.msg" --csv) <(./desk figures "$file" --month 2026-07 --csv)
+    expect 'run: dates' 0 sh -c "./desk run '$work/two.msg' --month 2026-07 | head -n 5" <<END
+9 calls, none refused; day 31 (2026-09-14); run 1 settled; 2 quarter hours
+
+2 selections changed
+    day 9 (2026-08-13): point 1, run 1: version 7 in the place of 5
+    day 31 (2026-09-14): point 2, run 2: version 11 in the place of 10, which run 1 selects
+END
 }
 
 # A run and a group picked from each list; rows stay in their order and keep their numbers.
 picks() {
     local file=$1
     expect 'log: one run' 0 ./desk log "$file" --run 2 --csv <<END
-row,day,point,run,version
-4,31,2,2,11
+row,day,date,point,run,version
+4,31,,2,2,11
 END
     expect 'log: one group' 0 ./desk log "$file" --group 5 --csv <<END
-row,day,point,run,version
-1,2,2,1,10
-4,31,2,2,11
+row,day,date,point,run,version
+1,2,,2,1,10
+4,31,,2,2,11
 END
     expect 'log: one group and one run' 0 ./desk log "$file" --run=1 --group=5 --json <<END
 [
-{"row":1,"day":2,"point":2,"run":1,"version":10}
+{"row":1,"day":2,"date":null,"point":2,"run":1,"version":10}
 ]
 END
     expect 'log: a group without a sum' 0 ./desk log "$file" --group 1 --csv <<END
-row,day,point,run,version
+row,day,date,point,run,version
 END
     expect 'points: one group' 0 ./desk points "$file" --group 5 --csv <<END
-point,kind,area,partner,since,version,status,run_1,run_2
-2,group-sum,1,5,0,10,settled,yes,no
-2,group-sum,1,5,0,11,correction settlement data,no,yes
+point,kind,area,partner,since,since_date,version,status,run_1,run_2
+2,group-sum,1,5,0,,10,settled,yes,no
+2,group-sum,1,5,0,,11,correction settlement data,no,yes
 END
     expect 'points: one run' 0 ./desk points "$file" --run 2 --csv <<END
-point,kind,area,partner,since,version,status,run_1,run_2
-1,exchange,1,0,0,7,settled,yes,yes
-2,group-sum,1,5,0,11,correction settlement data,no,yes
+point,kind,area,partner,since,since_date,version,status,run_1,run_2
+1,exchange,1,0,0,,7,settled,yes,yes
+2,group-sum,1,5,0,,11,correction settlement data,no,yes
 END
     expect 'points: one group and one run' 0 ./desk points "$file" --run 1 --group 5 --csv <<END
-point,kind,area,partner,since,version,status,run_1,run_2
-2,group-sum,1,5,0,10,settled,yes,no
+point,kind,area,partner,since,since_date,version,status,run_1,run_2
+2,group-sum,1,5,0,,10,settled,yes,no
 END
     expect "points: a group of the transmission operator's" 0 ./desk points examples/month.calls --group 6 --csv <<END
-point,kind,area,partner,since,version,status,run_1,run_2
-5,operator-sum,0,6,0,1,settlement data,yes,yes
+point,kind,area,partner,since,since_date,version,status,run_1,run_2
+5,operator-sum,0,6,0,,1,settlement data,yes,yes
 END
     expect 'figures: one group and one run' 0 ./desk figures "$file" --run 2 --group 5 --json <<END
 [
@@ -238,14 +298,21 @@ END
 
 # ---- text
 
-# bad WORDS LINE: a line that cannot be packed, between two that can; nothing is written.
-bad() {
-    printf '%s\n%s\n%s\n' 'settle run=1 day=31  # fine' "$2" 'settle run=1 day=32' >"$work/bad.calls"
+# bad_text WORDS LINE..: a text of these lines cannot be packed; nothing is written.
+bad_text() {
+    local words=$1
+    shift
+    printf '%s\n' "$@" >"$work/bad.calls"
     rm -f "$work/bad.msg"
-    expect "pack: $1" 2 ./desk pack "$work/bad.calls" -o "$work/bad.msg" <<END
-! desk: $work/bad.calls: line 2: $1
+    expect "pack: $words" 2 ./desk pack "$work/bad.calls" -o "$work/bad.msg" <<END
+! desk: $work/bad.calls: $words
 END
-    [ ! -e "$work/bad.msg" ] || fail "pack wrote all the same: $1"
+    [ ! -e "$work/bad.msg" ] || fail "pack wrote all the same: $words"
+}
+
+# bad WORDS LINE: a line that cannot be packed, between two that can.
+bad() {
+    bad_text "line 2: $1" 'settle run=1 day=31  # fine' "$2" 'settle run=1 day=32'
 }
 
 bad_lines() {
@@ -369,6 +436,244 @@ END
     has 'print of a damaged file' 1 '^# refused with 34 at offset 29: a submission counts more than 2,980 energies' ./desk print examples/count.msg
 }
 
+# ---- days and dates
+
+# The same calls with numbers and with dates after October 2026.
+dated_text() {
+    local numbers dates
+    numbers=$(text numbers.calls <<END
+open quarters=2 first=10 clearing=30 correction=150 others=3
+activate point=1 kind=exchange area=1 partner=outside day=0
+submit point=1 version=1 day=9 energies=1,2
+deactivate point=1 day=10
+assign area=T group=5 day=12
+notice point=1 version=1 verdict=positive day=20
+settle run=1 day=31
+settle run=2 day=400
+END
+    )
+    # A Sunday has the number of the Friday before it; 18 November 2026 is a holiday.
+    dates=$(text dates.calls <<END
+# October
+	month  2026-10  # in front of the first date
+open quarters=2 first=2026-11-13 clearing=2026-12-14 correction=2027-06-15 others=3
+activate point=1 kind=exchange area=1 partner=outside day=2026-10-31
+submit point=1 version=1 day=2026-11-12 energies=1,2
+deactivate point=1 day=2026-11-15
+assign area=T group=5 day=2026-11-18
+notice point=1 version=1 verdict=positive day=2026-11-30
+settle run=1 day=31
+settle run=2 day=2028-06-16
+END
+    )
+    ./desk pack "$numbers" -o "$work/numbers.msg"
+    holds 'pack: dates give the bytes of their numbers' sh -c "./desk pack '$dates' | cmp - '$work/numbers.msg'"
+    sed 2d "$dates" >"$work/bare.calls"
+    holds 'pack: --month does without the line' sh -c "./desk pack --month 2026-10 '$work/bare.calls' | cmp - '$work/numbers.msg'"
+    holds 'pack: --month beside the line' sh -c "./desk pack --month 2026-10 '$dates' | cmp - '$work/numbers.msg'"
+    holds 'pack: a month behind numbers' cmp <(printf 'settle run=1 day=31\nmonth 2026-10\nsettle run=1 day=2026-12-15\n' | ./desk pack -) <(printf '\7\1\37\7\1\37')
+    has 'figures: --month does without the line' 1 '^  1        2      3                 2$' ./desk figures --month 2026-10 "$work/bare.calls"
+    has 'figures: dates and no month' 2 'line 2: has a date, as 7 lines have, and no month is named' ./desk figures "$work/bare.calls"
+    has 'run: a month line is no call' 1 '^line 6, call 4: deactivate point 1: refused, 23: point 1 has version 1 \(line 5\)$' ./desk run "$dates"
+    has 'run: a month and no call' 2 'is text without a call$' ./desk run <(echo 'month 2026-10')
+    holds 'pack: a month and no call' cmp <(echo 'month 2026-10' | ./desk pack - 2>/dev/null) /dev/null
+    expect 'run: --month and another month' 2 ./desk run --month 2026-09 "$dates" <<END
+! desk: $dates: line 2: the month is 2026-10, and --month says 2026-09
+END
+    has 'a wrong --month' 2 "^desk: --month takes a month of 2020 to 2059, written YYYY-MM: '2060-01'$" ./desk log "$dates" --month 2060-01
+    has 'a --month that is none' 2 "^desk: --month takes a month of 2020 to 2059, written YYYY-MM: '10/2026'$" ./desk log "$dates" --month 10/2026
+    bad_dates
+    bad_months
+}
+
+# bad_date WORDS FIELD: after October 2026.
+bad_date() {
+    bad_text "line 2: $1" 'month 2026-10' "settle run=1 $2" 'settle run=1 day=2026-12-15'
+}
+
+bad_dates() {
+    local line='settle run=1 day=2026-12-15'
+    bad_date 'day is refused, 36: there is no date 2027-02-30' day=2027-02-30
+    bad_date 'day is refused, 36: there is no date 2026-13-01' day=2026-13-01
+    bad_date 'day is refused, 36: there is no date 2026-12-00' day=2026-12-00
+    bad_date 'day is refused, 36: 2060-01-05 lies outside 2020 to 2059' day=2060-01-05
+    bad_date 'day is refused, 36: 2019-12-30 lies outside 2020 to 2059' day=2019-12-30
+    bad_date 'day is refused, 36: 2026-10-30 lies before 2026-10-31, the last day of 2026-10' day=2026-10-30
+    bad_date 'day is refused, 36: 2028-06-19 would have a number above 400; day 400 after 2026-10 is 2028-06-16' day=2028-06-19
+    bad_date "day is no date: '2026-12-1'; write YYYY-MM-DD" day=2026-12-1
+    bad_date "day is no date: '2026-12'; write YYYY-MM-DD" day=2026-12
+    bad_date "day is no date: '15.12.2026'; write YYYY-MM-DD" day=15.12.2026
+    bad_date "day is no date: '12/15/2026'; write YYYY-MM-DD" day=12/15/2026
+    bad_date "day is no whole number: '20261215x'" day=20261215x
+    bad_text "line 2: clearing is refused, 36: there is no date 2026-11-31" 'month 2026-10' 'open quarters=2 first=10 clearing=2026-11-31 correction=150 others=3'
+    bad_text "line 2: quarters is no whole number: '2026-11-12'" 'month 2026-10' 'open quarters=2026-11-12 first=10 clearing=30 correction=150 others=3'
+    bad_text 'line 2: has a date, and no month is named in front: put `month YYYY-MM` there, or give --month YYYY-MM' 'settle run=1 day=31' "$line"
+    bad_text 'line 1: has a date, as 3 lines have, and no month is named in front: put `month YYYY-MM` there, or give --month YYYY-MM' \
+        'open quarters=2 first=2026-11-13 clearing=2026-12-14 correction=150 others=3' 'settle run=1 day=31' "$line" "$line"
+}
+
+# Every bad line is named, in their order.
+bad_months() {
+    local line='settle run=1 day=2026-12-15'
+    bad_text 'line 3: the month stands twice: line 1 names it' 'month 2026-10' "$line" 'month 2026-10'
+    bad_text "line 1: a month is written YYYY-MM: '2026-1'" 'month 2026-1' "$line"
+    bad_text 'line 1: a month is named by `month YYYY-MM` and nothing else' 'month' "$line"
+    bad_text 'line 1: a month is named by `month YYYY-MM` and nothing else' 'month=2026-10' "$line"
+    bad_text 'line 1: a month is named by `month YYYY-MM` and nothing else' 'month 2026-10 2026-11' "$line"
+    bad_text 'line 1: the month is refused, 36: 2019-12 is no month of 2020 to 2059' 'month 2019-12' "$line"
+    bad_text 'line 1: the month is refused, 36: 2026-13 is no month of 2020 to 2059' 'month 2026-13' "$line"
+    bad_text 'line 1: the month is refused, 36: 2060-01 is no month of 2020 to 2059' 'month 2060-01' "$line"
+    printf '%s\n' "$line" 'month 2026-10' 'settle run=1 day=2026-12-32' 'settle day=1' >"$work/bad.calls"
+    expect 'pack: a month behind a date, and other mistakes' 2 ./desk pack "$work/bad.calls" <<END
+! desk: $work/bad.calls: line 1: has a date, and no month is named in front: put \`month YYYY-MM\` there, or give --month YYYY-MM
+! desk: $work/bad.calls: line 2: the month stands behind line 1, which has a date; put it in front of the first date
+! desk: $work/bad.calls: line 3: day is refused, 36: there is no date 2026-12-32
+! desk: $work/bad.calls: line 4: settle lacks run
+END
+    expect 'pack: a month behind a date, with --month' 2 ./desk pack --month 2026-10 "$work/bad.calls" <<END
+! desk: $work/bad.calls: line 2: the month stands behind line 1, which has a date; put it in front of the first date
+! desk: $work/bad.calls: line 3: day is refused, 36: there is no date 2026-12-32
+! desk: $work/bad.calls: line 4: settle lacks run
+END
+}
+
+# asked STATUS ANSWER WORD..: a question to the calendar, answered in a line.
+asked() {
+    local status=$1 answer=$2
+    shift 2
+    expect "$*: $answer" "$status" ./desk "$@" <<END
+$answer
+END
+}
+
+questions() {
+    asked 0 '2026-11-12, a Thursday, is day 9 after 2026-10' day 2026-10 2026-11-12
+    asked 0 'day 9 after 2026-10 is 2026-11-12, a Thursday' date 2026-10 9
+    asked 0 '2022-10-31, a Monday, is day 0 after 2022-10: its last day' day 2022-10 2022-10-31
+    asked 1 'refused, 36: 2022-10-30 lies before 2022-10-31, the last day of 2022-10' day 2022-10 2022-10-30
+    asked 0 '2026-11-01, a Sunday, is a day off and has the number of 2026-10-31, a Saturday, the last day of 2026-10: day 0' day 2026-10 2026-11-01
+    asked 0 '2020-12-05, a Saturday, is a day off and has the number of 2020-12-04, a Friday: day 4 after 2020-11' day 2020-11 2020-12-05
+    asked 0 'day 4 after 2020-11 is 2020-12-04, a Friday' date 2020-11 4
+    asked 0 'day 20 after 2020-11 is 2020-12-30, a Wednesday' date 2020-11 20
+    asked 0 '2059-12-30, a Tuesday, is day 19 after 2059-11' day 2059-11 2059-12-30
+    asked 0 'day 19 after 2059-11 is 2059-12-30, a Tuesday' date 2059-11 19
+    asked 1 'refused, 36: day 20 after 2059-11 would lie behind 2059; the last one is day 19, 2059-12-30' date 2059-11 20
+    asked 1 'refused, 36: day 400 after 2059-11 would lie behind 2059; the last one is day 19, 2059-12-30' date 2059-11 400
+    asked 0 'day 0 after 2059-12 is 2059-12-31, a Wednesday: its last day' date 2059-12 0
+    asked 1 'refused, 36: day 1 after 2059-12 would lie behind 2059; the last one is day 0, 2059-12-31' date 2059-12 1
+    asked 0 'day 400 after 2020-01 is 2021-09-09, a Thursday' date 2020-01 400
+    asked 0 '2021-09-09, a Thursday, is day 400 after 2020-01' day 2020-01 2021-09-09
+    asked 1 'refused, 36: 2021-09-10 would have a number above 400; day 400 after 2020-01 is 2021-09-09' day 2020-01 2021-09-10
+    asked 1 'refused, 36: day numbers go up to 400' date 2020-01 401
+    asked 1 'refused, 36: day numbers go up to 400' date 2020-01 99999999999999999999
+    asked 1 'refused, 36: 2019-12 is no month of 2020 to 2059' date 2019-12 1
+    asked 1 'refused, 36: 2026-00 is no month of 2020 to 2059' day 2026-00 2026-11-12
+    asked 1 'refused, 36: there is no date 2021-02-29' day 2020-10 2021-02-29
+    asked 1 'refused, 36: 2060-01-02 lies outside 2020 to 2059' day 2059-11 2060-01-02
+    asked 2 "! desk: a date is written YYYY-MM-DD: '12.11.2026'" day 2026-10 12.11.2026
+    asked 2 "! desk: a date is written YYYY-MM-DD: '9'" day 2026-10 9
+    asked 2 "! desk: a month is written YYYY-MM: '10-2026'" day 10-2026 2026-11-12
+    asked 2 "! desk: a day number is a whole number from 0 to 400: 'nine'" date 2026-10 nine
+    has 'day: one word' 2 'desk day takes a month and a date: desk day 2026-10 2026-11-12$' ./desk day 2026-10
+    has 'date: three words' 2 'desk date takes a month and a day number: desk date 2026-10 9$' ./desk date 2026-10 9 9
+    has 'calendar: no word' 2 'desk calendar takes one month: desk calendar 2026-10$' ./desk calendar
+    question_lists
+}
+
+question_lists() {
+    expect 'day as csv: a day off' 0 ./desk day 2020-11 2020-12-05 --csv <<END
+month,date,weekday,day,first_date,refused
+2020-11,2020-12-05,Saturday,4,2020-12-04,
+END
+    expect 'day as json: refused' 1 ./desk day 2022-10 2022-10-30 --json <<END
+[
+{"month":"2022-10","date":"2022-10-30","weekday":"Sunday","day":null,"first_date":null,"refused":36}
+]
+! desk: refused, 36: 2022-10-30 lies before 2022-10-31, the last day of 2022-10
+END
+    expect 'date as json' 0 ./desk date 2026-10 9 --json <<END
+[
+{"month":"2026-10","day":9,"date":"2026-11-12","weekday":"Thursday","refused":null}
+]
+END
+    expect 'date as csv: refused' 1 ./desk date 2059-11 20 --csv <<END
+month,day,date,weekday,refused
+2059-11,20,,,36
+! desk: refused, 36: day 20 after 2059-11 would lie behind 2059; the last one is day 19, 2059-12-30
+END
+}
+
+calendars() {
+    expect 'calendar: deadlines by number and date' 0 ./desk calendar 2026-10 --first 2 --clearing 2026-11-08 --correction 7 <<END
+day  date        weekday    mark  deadline
+  1  2026-11-02  Monday
+  2  2026-11-03  Tuesday    F     first delivery
+  3  2026-11-04  Wednesday
+  4  2026-11-05  Thursday
+  5  2026-11-06  Friday     C     clearing
+  6  2026-11-09  Monday
+  7  2026-11-10  Tuesday    K     correction
+END
+    expect 'calendar as csv, to a day' 0 ./desk calendar 2026-10 --csv --to 2 --clearing=2 --correction=30 <<END
+day,date,weekday,mark,deadline
+1,2026-11-02,Monday,,
+2,2026-11-03,Tuesday,C,clearing
+END
+    holds 'calendar: to a day behind the correction deadline' cmp <(./desk calendar 2026-10 --to 5 --correction 2) <(./desk calendar 2026-10 --correction 2)
+    expect 'calendar as json' 0 ./desk calendar 2026-10 --json --to 2 --first=1 <<END
+[
+{"day":1,"date":"2026-11-02","weekday":"Monday","mark":"F","deadline":"first delivery"},
+{"day":2,"date":"2026-11-03","weekday":"Tuesday","mark":null,"deadline":null}
+]
+END
+    holds 'calendar: as many days as there are numbers' cmp <(./desk calendar 2020-01 --csv | sed 1d | cut -d, -f 1) <(seq 400)
+    expect 'calendar: the end of it' 0 ./desk calendar 2059-12 <<END
+day  date        weekday    mark  deadline
+the calendar ends with 2059: it has no working day after 2059-12
+END
+    expect 'calendar as csv: the end of it' 0 sh -c './desk calendar 2059-11 --csv | tail -n 1' <<END
+19,2059-12-30,Tuesday,,
+! desk: the calendar ends with 2059: it has 19 working days after 2059-11
+END
+    has 'calendar: to a day before the end' 0 '^ 19  2059-12-30  Tuesday$' ./desk calendar 2059-11 --to 19
+    holds 'calendar: nothing is said there' sh -c "! grep -q ends '$work/out'"
+    asked 1 'refused, 36: 2019-12 is no month of 2020 to 2059' calendar 2019-12
+    asked 1 'refused, 36: 2026-10-30 lies before 2026-10-31, the last day of 2026-10' calendar 2026-10 --first 2026-10-30
+    expect 'calendar as csv: refused' 1 ./desk calendar 2059-11 --correction 150 --csv <<END
+day,date,weekday,mark,deadline
+! desk: refused, 36: day 150 after 2059-11 would lie behind 2059; the last one is day 19, 2059-12-30
+END
+    asked 2 '! desk: deadlines 10, 10 do not rise' calendar 2026-10 --first 10 --correction 10
+    asked 2 '! desk: deadlines 1, 30, 9 do not rise' calendar 2026-10 --correction 2026-11-12 --first 1 --clearing 30
+    asked 2 "! desk: a deadline is a day number from 1 to 399, or a date that has one: '400'" calendar 2026-10 --correction 400
+    asked 2 "! desk: a deadline is a day number from 1 to 399, or a date that has one: '2026-10-31'" calendar 2026-10 --first 2026-10-31
+    asked 2 "! desk: a deadline is a day number from 1 to 399, or a date that has one: 'soon'" calendar 2026-10 --first soon
+    has 'calendar: to no number' 2 "--to takes a number from 1 to 400: '401'" ./desk calendar 2026-10 --to 401
+    has 'calendar: a deadline without its day' 2 '--clearing takes a day number or a date$' ./desk calendar 2026-10 --clearing
+}
+
+# Numbers become dates and numbers again; numbers that have no date stay.
+dates_and_back() {
+    local month
+    { seq -f 'settle run=1 day=%.0f' 0 402 && echo 'settle run=1 day=9223372036854775807' &&
+        echo 'open quarters=18 first=1 clearing=20 correction=400 T=17 others=16' &&
+        echo 'submit point=15 version=14 day=13 energies=12'; } | ./desk pack - -o "$work/numbers.msg"
+    for month in 2020-01 2026-10 2059-11 2059-12; do
+        ./desk print "$work/numbers.msg" --month $month >"$work/text"
+        holds "print --month $month and back" sh -c "./desk pack '$work/text' | cmp - '$work/numbers.msg'"
+    done
+    expect 'print: days as dates, other numbers as they are' 0 sh -c "./desk print --month 2059-11 '$work/numbers.msg' | sed 's/  #.*//' | sed -n '1,2p; 20,22p; 406,\$p'" <<END
+month 2059-11
+settle run=1 day=2059-11-30
+settle run=1 day=2059-12-29
+settle run=1 day=2059-12-30
+settle run=1 day=20
+open quarters=18 first=2059-12-01 clearing=20 correction=400 T=17 1=16 2=16 3=16 4=16 5=16 6=16 7=16 8=16 9=16 10=16 11=16 12=16 13=16 14=16 15=16 16=16
+submit point=15 version=14 day=2059-12-17 energies=12
+END
+    holds 'print of a text keeps its month' sh -c "./desk print '$work/dates.calls' | head -n 2 | tr '\n' ' ' | grep -q '^month 2026-10 open quarters=2 first=2026-11-13 clearing=2026-12-14 correction=2027-06-15 T=3 '"
+}
+
 # ---- streams
 
 streams() {
@@ -392,7 +697,7 @@ END
 ! desk: /dev/full cannot be written: no space left
 END
     expect 'a file, standard input closed' 0 sh -c './desk log examples/month.calls --run 2 --csv <&-' <<END
-row,day,point,run,version
+row,day,date,point,run,version
 END
     limits
     has 'an output in no folder' 2 'cannot be written: no such file' ./desk pack examples/month.calls -o "$work/none/x.msg"
@@ -439,19 +744,20 @@ example() { # command
 
 help() {
     local command
-    for command in run figures log points page pack print causes; do
+    for command in run figures log points page pack print day date calendar causes; do
         holds "help of $command, and its example" example "$command"
     done
     has 'help' 0 '^Exit status: 0 all calls accepted' ./desk --help
-    has 'version' 0 '^desk [0-9.]+, library 2$' ./desk --version
+    has 'version' 0 '^desk [0-9.]+, library 3$' ./desk --version
     has 'no command' 2 'desk run' ./desk
     has 'a wrong command' 2 "there is no command 'runn'; commands are run, figures" ./desk runn
     has 'help of a wrong command' 2 "there is no command 'runn'" ./desk help runn
     has 'words behind --version' 2 "nothing follows: 'x'" ./desk --version x
-    has 'a wrong option' 2 'desk log has no option --runn; its options are --csv, --json, --run, --group$' ./desk log x --runn 3
+    has 'a wrong option' 2 'desk log has no option --runn; its options are --csv, --json, --run, --group, --month$' ./desk log x --runn 3
     has 'an option of others: run' 2 'desk run has no option --group; figures, log, points have it$' ./desk run x --group 3
     has 'an option of others: page' 2 'desk page has no option --run; figures, log, points have it$' ./desk page x --run 1
     has 'an option of others: causes' 2 'desk causes has no option --run; figures, log, points have it$' ./desk causes --run 1
+    has 'an option of others: day' 2 'desk day has no option --month; run, figures, log, points, page, pack, print have it$' ./desk day x --month 2026-10
     has 'an option of another' 2 'desk log has no option --all; desk figures has it$' ./desk log x --all
     has 'an option twice' 2 '--run stands twice' ./desk log x --run 1 --run 2
     has 'two forms' 2 '--csv and --json do not go together' ./desk log x --csv --json
@@ -471,7 +777,7 @@ help() {
 man_page() {
     local command line
     sed 's/\\-/-/g; s/\\&//g; s/\\e/\\/g' "$work/desk.1" >"$work/manual"
-    for command in run figures log points page pack print causes; do
+    for command in run figures log points page pack print day date calendar causes; do
         ./desk "$command" --help | while IFS= read -r line; do
             [ -z "$line" ] || grep -qF -- "${line%.}" "$work/manual" || { echo "$command: $line" && return 1; }
         done || return 1
@@ -506,13 +812,14 @@ causes() {
     ./desk causes --csv | awk -F, 'NR > 1 { print $1, $2 }' | sort -n >"$work/program"
     awk '/Answers: accepted/ { on = 1 } /Ranges/ { on = 0 } on && $1 == "#define" && $3 > 0 { sub("EMORIZUGU_", "", $2); print $3, $2 }' \
         include/emorizugu.h | sort -n >"$work/header"
-    cat crates/model/specs/Call.antt crates/message/specs/Cause.antt |
-        sed -n 's/^causeNumber \([A-Za-z]*\) = \([0-9]*\)$/\2 \1/p' |
+    cat crates/model/specs/Call.antt crates/message/specs/Cause.antt crates/calendar/specs/Answer.antt |
+        sed -n 's/^causeNumber \([A-Za-z]*\) = \([0-9]*\)$/\2 \1/p; s/^\(noDate\) = \([0-9]*\)$/\2 \1/p' |
         sed 's/\([a-z]\)\([A-Z]\)/\1_\2/g' | tr '[:lower:]' '[:upper:]' | sort -n >"$work/library"
     for one in program header library; do
         holds "causes: docs/CAUSES.md and the $one" diff "$work/page" "$work/$one"
     done
     has 'one cause' 0 'to mend: put the calls in the order of their days' ./desk causes 5
+    has 'the cause of a date' 0 '^    calls:   calendar$' ./desk causes 36
     has 'no such cause' 2 "there is no cause '7'" ./desk causes 7
 }
 
@@ -548,6 +855,13 @@ area 2: 50100
 END
     page_of two "$work/two.calls"
     page_script two "$work/two.calls"
+    page_of july examples/july.calls
+    page_script july examples/july.calls
+    holds 'dates on the page' sh -c "grep -q '<strong>21 calls, none refused; day 151 (2027-03-10); ' '$work/july.html' &&
+        grep -q '<li>day 21 (2026-08-31): point 3, run 1: ' '$work/july.html' &&
+        grep -q 'the deadlines F, day 10 (2026-08-14); C, day 30 (2026-09-11); K, day 150 (2027-03-09)\.' '$work/july.html' &&
+        grep -q '<td data-n=\"21\">21</td><td class=\"word\">2026-08-31</td>' '$work/july.html'"
+    holds 'no dates on a page without a month' sh -c "grep -q 'the deadlines F, day 10; C, day 30; K, day 150\.' '$work/two.html' && ! grep -q '[(>]20[0-9][0-9]-' '$work/two.html'"
     cp examples/example.msg "$work/{{log}}<&.msg"
     page_of odd "$work/{{log}}<&.msg" 2>/dev/null
     page_script odd "$work/{{log}}<&.msg" 2>/dev/null
@@ -588,6 +902,7 @@ mkdir -p "$work" || exit 2
 if ./desk --version >"$work/log" 2>&1; then
     pass 'the program is built'
     refusals
+    dated_refusals
     holds 'one typed day' typed_day
     too_many
     not_open
@@ -596,6 +911,10 @@ if ./desk --version >"$work/log" 2>&1; then
     bad_lines
     series_files
     there_and_back
+    dated_text
+    questions
+    calendars
+    dates_and_back
     streams
     help
     causes

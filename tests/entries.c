@@ -1,4 +1,4 @@
-/* Every entry with NULL where the length is 0, and a replay on a thread of EMORIZUGU_STACK bytes. */
+/* Every entry with NULL where the length is 0, the calendar, and both on a thread of EMORIZUGU_STACK bytes. */
 #include <pthread.h>
 #include <stdio.h>
 #include <stdlib.h>
@@ -13,8 +13,27 @@ static int wrong(const char *what) {
     return 1;
 }
 
+static int calendar(void) {
+    const uint64_t most = UINT64_MAX;
+    if (emorizugu_day_refusal(2026, 10, 2026, 11, 12) != 0 || emorizugu_day(2026, 10, 2026, 11, 12) != 9)
+        return wrong("the number of a date");
+    if (emorizugu_day_refusal(2026, 10, 2026, 10, 30) != EMORIZUGU_NO_DATE
+        || emorizugu_day(2026, 10, 2026, 10, 30) != 0)
+        return wrong("the number of a date before the month's last day");
+    if (emorizugu_day_refusal(most, most, most, most, most) != EMORIZUGU_NO_DATE
+        || emorizugu_day(most, most, most, most, most) != 0)
+        return wrong("the number of no date");
+    if (emorizugu_date_refusal(2026, 10, 9) != 0 || emorizugu_date(2026, 10, 9) != 20261112)
+        return wrong("the date of a number");
+    if (emorizugu_date_refusal(2026, 10, 401) != EMORIZUGU_NO_DATE || emorizugu_date(2026, 10, 401) != 0)
+        return wrong("the date of a number above 400");
+    if (emorizugu_date_refusal(most, most, most) != EMORIZUGU_NO_DATE || emorizugu_date(most, most, most) != 0)
+        return wrong("the date of no number");
+    return emorizugu_weekday(2026, 11, 12) == 4 && emorizugu_weekday(most, most, most) == 0 ? 0 : wrong("a weekday");
+}
+
 static void *run(void *refusal) {
-    *(uint64_t *)refusal = emorizugu_run(&r);
+    *(uint64_t *)refusal = calendar() == 0 ? emorizugu_run(&r) : EMORIZUGU_NO_DATE;
     return NULL;
 }
 

@@ -46,7 +46,7 @@ compiled() { # compiler, program, what is compiled..
 
 in_c() {
     lines book.c && cmp "$work/examples/new.book" examples/month.book && lines host.c &&
-        compiled gcc book -std=c99 examples/book.c examples/files.c
+        lines calendar.c && [ "$(cat "$work/out")" = 9 ] && compiled gcc book -std=c99 examples/book.c examples/files.c
 }
 
 in_cpp() {

@@ -2,6 +2,7 @@
 
 use std::ffi::OsString;
 
+use crate::calendar::{Month, MOST_DAY};
 use crate::help;
 use crate::output::Failure;
 
@@ -19,6 +20,9 @@ pub enum Command {
     Page,
     Pack,
     Print,
+    Day,
+    Date,
+    Calendar,
     Causes,
 }
 
@@ -40,29 +44,50 @@ pub struct Wanted {
     pub group: Option<u64>,
     pub all: bool,
     pub to: Option<OsString>,
+    pub month: Option<Month>,
+    /// First delivery, clearing and correction: a number or a date each.
+    pub deadlines: [Option<OsString>; 3],
+    /// The last day number of a calendar.
+    pub last: Option<u64>,
 }
 
+const DEADLINES: [&str; 3] = ["--first", "--clearing", "--correction"];
+
 /// The commands by name, each with the options that it takes.
-pub const COMMANDS: [(&str, Command, &[&str]); 8] = [
-    ("run", Command::Run, &[]),
+pub const COMMANDS: [(&str, Command, &[&str]); 11] = [
+    ("run", Command::Run, &["--month"]),
     (
         "figures",
         Command::Figures,
-        &["--csv", "--json", "--run", "--group", "--all"],
+        &["--csv", "--json", "--run", "--group", "--all", "--month"],
     ),
     (
         "log",
         Command::Log,
-        &["--csv", "--json", "--run", "--group"],
+        &["--csv", "--json", "--run", "--group", "--month"],
     ),
     (
         "points",
         Command::Points,
-        &["--csv", "--json", "--run", "--group"],
+        &["--csv", "--json", "--run", "--group", "--month"],
     ),
-    ("page", Command::Page, &["-o"]),
-    ("pack", Command::Pack, &["-o"]),
-    ("print", Command::Print, &["-o"]),
+    ("page", Command::Page, &["-o", "--month"]),
+    ("pack", Command::Pack, &["-o", "--month"]),
+    ("print", Command::Print, &["-o", "--month"]),
+    ("day", Command::Day, &["--csv", "--json"]),
+    ("date", Command::Date, &["--csv", "--json"]),
+    (
+        "calendar",
+        Command::Calendar,
+        &[
+            "--csv",
+            "--json",
+            DEADLINES[0],
+            DEADLINES[1],
+            DEADLINES[2],
+            "--to",
+        ],
+    ),
     ("causes", Command::Causes, &["--json", "--csv"]),
 ];
 
@@ -99,6 +124,17 @@ fn number(option: &str, word: Option<OsString>, most: u64) -> Result<Option<u64>
     }
 }
 
+/// The month of `--month`.
+fn month(word: Option<OsString>) -> Result<Option<Month>, Failure> {
+    let word = word.unwrap_or_default().to_string_lossy().into_owned();
+    match Month::read(&word).map(Month::known) {
+        Some(Ok(month)) => Ok(Some(month)),
+        _ => Err(wrong(format!(
+            "--month takes a month of 2020 to 2059, written YYYY-MM: '{word}'"
+        ))),
+    }
+}
+
 fn no_command(word: &str) -> Failure {
     let names: Vec<&str> = COMMANDS.iter().map(|(name, _, _)| *name).collect();
     wrong(format!(
@@ -130,6 +166,9 @@ pub fn read(words: Vec<OsString>) -> Result<Wanted, Failure> {
         group: None,
         all: false,
         to: None,
+        month: None,
+        deadlines: [None, None, None],
+        last: None,
     };
     let mut words = words.into_iter();
     let Some(first) = words.next() else {
@@ -212,15 +251,27 @@ fn rest(
     {
         return Err(wrong("--csv and --json do not go together".to_string()));
     }
-    if wanted.command == Command::Causes {
-        return Ok(());
+    named(wanted, name)
+}
+
+/// What the words are that are no options: a file, or a question to the calendar.
+fn named(wanted: &mut Wanted, name: &str) -> Result<(), Failure> {
+    let (words, what) = match wanted.command {
+        Command::Causes => return Ok(()),
+        Command::Day => (2, "a month and a date: desk day 2026-10 2026-11-12"),
+        Command::Date => (2, "a month and a day number: desk date 2026-10 9"),
+        Command::Calendar => (1, "one month: desk calendar 2026-10"),
+        _ => (1, "one file; `-` is standard input"),
+    };
+    if wanted.words.len() != words {
+        return Err(wrong(format!("desk {name} takes {what}")));
     }
-    if wanted.words.len() != 1 {
-        return Err(wrong(format!(
-            "desk {name} takes one file; `-` is standard input"
-        )));
+    if !matches!(
+        wanted.command,
+        Command::Day | Command::Date | Command::Calendar
+    ) {
+        wanted.file = wanted.words.remove(0);
     }
-    wanted.file = wanted.words.remove(0);
     Ok(())
 }
 
@@ -240,10 +291,21 @@ fn take(
         "--all" => wanted.all = true,
         "--run" => wanted.run = number(option, value.or_else(|| words.next()), 2)?,
         "--group" => wanted.group = number(option, value.or_else(|| words.next()), 64)?,
-        _ => match value.or_else(|| words.next()) {
-            Some(file) => wanted.to = Some(file),
-            None => return Err(wrong(format!("{option} takes a file"))),
-        },
+        "--to" => wanted.last = number(option, value.or_else(|| words.next()), MOST_DAY)?,
+        "--month" => wanted.month = month(value.or_else(|| words.next()))?,
+        _ => word(wanted, option, value.or_else(|| words.next()))?,
+    }
+    Ok(())
+}
+
+/// An option whose word is looked at later: a deadline, or a file's name.
+fn word(wanted: &mut Wanted, option: &str, word: Option<OsString>) -> Result<(), Failure> {
+    let deadline = DEADLINES.iter().position(|name| *name == option);
+    match (deadline, word) {
+        (Some(at), Some(day)) => wanted.deadlines[at] = Some(day),
+        (Some(_), None) => return Err(wrong(format!("{option} takes a day number or a date"))),
+        (None, Some(file)) => wanted.to = Some(file),
+        (None, None) => return Err(wrong(format!("{option} takes a file"))),
     }
     Ok(())
 }

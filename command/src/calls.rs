@@ -97,6 +97,14 @@ pub const STATUSES: [&str; 5] = [
     "correction settled",
 ];
 
+/// The fields that are days: each takes a date where the month is named.
+const DAYS: [&str; 4] = ["day", "first", "clearing", "correction"];
+
+/// Whether a field is a day.
+pub fn is_day(field: &str) -> bool {
+    DAYS.contains(&field)
+}
+
 /// Words that stand for a field's number.
 pub const NAMES: [(&str, &str, u64); 12] = [
     ("kind", SERIES[0], 1),

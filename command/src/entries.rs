@@ -44,6 +44,23 @@ extern "C" {
     pub fn emorizugu_sum(book: *const u64, length: usize, quarters: u64, run: u64, row: u64)
         -> u64;
     pub fn emorizugu_difference(book: *const u64, length: usize, quarters: u64, row: u64) -> u64;
+    pub fn emorizugu_day_refusal(
+        year: u64,
+        month: u64,
+        date_year: u64,
+        date_month: u64,
+        date_day: u64,
+    ) -> u64;
+    pub fn emorizugu_day(
+        year: u64,
+        month: u64,
+        date_year: u64,
+        date_month: u64,
+        date_day: u64,
+    ) -> u64;
+    pub fn emorizugu_date_refusal(year: u64, month: u64, day: u64) -> u64;
+    pub fn emorizugu_date(year: u64, month: u64, day: u64) -> u64;
+    pub fn emorizugu_weekday(year: u64, month: u64, day: u64) -> u64;
     pub fn emorizugu_version() -> u64;
     pub fn emorizugu_read(
         file: *const u8,

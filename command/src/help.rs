@@ -11,57 +11,60 @@ struct Help {
     example: &'static str,
 }
 
-const HELPS: [Help; 8] = [
+const HELPS: [Help; 11] = [
     Help {
         name: "run",
-        usage: "desk run FILE",
+        usage: "desk run FILE [--month YYYY-MM]",
         short: "run a month: what was refused and why, then the month in short",
         body: "FILE is text (one call a line) or a message file, told apart by content, of any length; - is standard input.\n\
             Each refused call is named with its line and number, the cause, and what would mend it. Then come how many calls were\n\
             answered and refused, the desk's day, which runs are settled, the selections that changed, and each group's month:\n\
-            the sum of run 1, of run 2, and run 2 less run 1, in watt-hours.",
+            the sum of run 1, of run 2, and run 2 less run 1, in watt-hours.\n\
+            Where the month is known, each day is shown with its date: by a line `month YYYY-MM` of the text (desk pack --help), or by\n\
+            --month, for a message file and for a text without that line.",
         example: "desk run examples/month.calls",
     },
     Help {
         name: "figures",
-        usage: "desk figures FILE [--run N] [--group N] [--all] [--csv | --json]",
+        usage: "desk figures FILE [--run N] [--group N] [--all] [--month YYYY-MM] [--csv | --json]",
         short: "each group's figure in each quarter hour",
         body: "Figures that are not 0, by run, quarter hour and group, in watt-hours; with --all those that are 0 too.\n\
-            --run picks a run, --group a balance group.\n\
+            --run picks a run, --group a balance group; --month names the month of a text's dates.\n\
             Columns: run, quarter, group, figure.",
         example: "desk figures examples/month.calls --run 1 --group 5 --csv",
     },
     Help {
         name: "log",
-        usage: "desk log FILE [--run N] [--group N] [--csv | --json]",
+        usage: "desk log FILE [--run N] [--group N] [--month YYYY-MM] [--csv | --json]",
         short: "the log: every change of a selection, in the order in which they came",
         body: "--run picks the changes of that run, --group those of points whose series is a sum of that balance group\n\
-            (group-sum and operator-sum, the group as partner). Rows keep their numbers.\n\
-            Columns: row (counted from 1), day, point, run, version (the one selected from then on).",
+            (group-sum and operator-sum, the group as partner). Rows keep their numbers. --month names the settled month.\n\
+            Columns: row (counted from 1), day, date (empty where the month is not known, or the day has none), point, run, version\n\
+            (the one selected from then on).",
         example: "desk log examples/month.calls --json",
     },
     Help {
         name: "points",
-        usage: "desk points FILE [--run N] [--group N] [--csv | --json]",
+        usage: "desk points FILE [--run N] [--group N] [--month YYYY-MM] [--csv | --json]",
         short: "each point's series with its versions, their status, and which of them count",
         body: "Active points by number, a point's versions by version; a point without a version has one row.\n\
             --run picks the versions that count in that run, --group the points whose series is a sum of that balance group\n\
-            (group-sum and operator-sum, the group as partner).\n\
-            Columns: point, kind, area, partner, since (the day of its activation), version, status, run_1 and run_2\n\
-            (yes where the version counts in that run, else no).",
+            (group-sum and operator-sum, the group as partner). --month names the settled month.\n\
+            Columns: point, kind, area, partner, since (the day of its activation), since_date (empty where the month is not known,\n\
+            or the day has none), version, status, run_1 and run_2 (yes where the version counts in that run, else no).",
         example: "desk points examples/month.calls",
     },
     Help {
         name: "page",
-        usage: "desk page FILE [-o PAGE]",
+        usage: "desk page FILE [--month YYYY-MM] [-o PAGE]",
         short: "the month as one page for a browser, with no outside parts",
         body: "The month's totals, a heat map of groups over quarter hours for each run, a group's curve on click, the deltas,\n\
-            refused calls, and the log as a timeline.",
+            refused calls, and the log as a timeline. --month names the settled month, so that days have dates.",
         example: "desk page examples/month.calls -o month.html",
     },
     Help {
         name: "pack",
-        usage: "desk pack FILE [-o FILE]",
+        usage: "desk pack FILE [--month YYYY-MM] [-o FILE]",
         short: "text to a message file",
         body: "One call a line, its fields by name, in any order; what follows # is a comment. Line ends are line feeds alone.\n\
             \n\
@@ -80,17 +83,54 @@ const HELPS: [Help; 8] = [
             Energies are watt-hours, one for each quarter hour, with commas between; none: no energies; @FILE: a number a line;\n\
             @FILE:COLUMN: a column of a csv with a header, commas or semicolons between. FILE is looked up beside the text.\n\
             unit=kWh: kilowatt-hours with up to three decimals behind a point.\n\
+            \n\
+            month 2026-10\n\
+            submit point=1 version=1 day=2026-11-12 energies=100000,-80000\n\
+            \n\
+            A line with month names the settled month, once and in front of the first date; it is no call, and --month stands for it.\n\
+            A date may then stand in the place of a day's number: in day, and in first, clearing and correction of an opening.\n\
+            It is packed as its number (desk day --help).\n\
             Every bad line is named, and then nothing is written. Whether the desk takes a call is the desk's to say.\n\
             -o writes the file whole or not at all.",
         example: "desk pack examples/month.calls -o month.msg",
     },
     Help {
         name: "print",
-        usage: "desk print FILE [-o FILE]",
+        usage: "desk print FILE [--month YYYY-MM] [-o FILE]",
         short: "a message file as text",
         body: "Each call on a line, with its offset in a comment; `desk pack` makes the same file of it. Of a damaged file the calls\n\
-            before the damage, then what is wrong.",
-        example: "desk print examples/month.msg",
+            before the damage, then what is wrong. With --month a `month` line comes first, and a day that has a date stands as its date.",
+        example: "desk print examples/month.msg --month 2026-07",
+    },
+    Help {
+        name: "day",
+        usage: "desk day MONTH DATE [--csv | --json]",
+        short: "the day number of a date after a settled month",
+        body: "MONTH is written YYYY-MM, DATE YYYY-MM-DD. Working days of 2020 to 2059 are all but Saturdays, Sundays, 24 and 31 December\n\
+            and every public holiday of any federal state. A date's number counts them after the settled month up to and including\n\
+            the date: its last day is day 0, and a day off has the number of the working day before it. There is no number (36) for\n\
+            a date before that last day, or where it would be above 400.\n\
+            Columns: month, date, weekday, day, first_date (the first date with that number; another than date on a day off),\n\
+            refused (the number of the refusal; empty where there is none).",
+        example: "desk day 2026-10 2026-11-12",
+    },
+    Help {
+        name: "date",
+        usage: "desk date MONTH NUMBER [--csv | --json]",
+        short: "the date of a day number after a settled month",
+        body: "MONTH is written YYYY-MM, NUMBER is 0 to 400. The date is the working day with that number, and for 0 the settled month's\n\
+            last day. There is none (36) where it would lie behind 2059.\n\
+            Columns: month, day, date, weekday, refused (the number of the refusal; empty where there is none).",
+        example: "desk date 2026-10 9",
+    },
+    Help {
+        name: "calendar",
+        usage: "desk calendar MONTH [--first D] [--clearing D] [--correction D] [--to N] [--csv | --json]",
+        short: "the working days after a settled month with their numbers, and the deadlines among them",
+        body: "A line a working day, from day 1 to the correction deadline where it is given, else to day 400; --to ends it sooner. D is a\n\
+            day number or a date; deadlines rise from 1 to 399. Where the years of the calendar end sooner, a last line says so.\n\
+            Columns: day, date, weekday, mark (F, C, K), deadline (first delivery, clearing, correction).",
+        example: "desk calendar 2026-10 --first 10 --clearing 30 --correction 2027-06-10",
     },
     Help {
         name: "causes",
@@ -102,8 +142,8 @@ const HELPS: [Help; 8] = [
 ];
 
 const STATUS: &str = "\
-Exit status: 0 all calls accepted; 1 some calls refused, or the file damaged behind answered calls; 2 nothing could be run,
-or the output could not be written.
+Exit status: 0 all calls accepted; 1 some calls refused, or the file damaged behind answered calls, or a month, date or day
+number refused (36); 2 nothing could be run, or the output could not be written.
 ";
 
 const INTENT: &str = "a month of a settlement desk: calls in, figures of the balance groups out";
@@ -120,7 +160,7 @@ pub fn version() -> String {
 pub fn overview() -> String {
     let commands: String = HELPS
         .iter()
-        .map(|help| format!("    desk {:<9}{}\n", help.name, help.short))
+        .map(|help| format!("    desk {:<10}{}\n", help.name, help.short))
         .collect();
     format!(
         "desk: {INTENT}\n\n{commands}\n\

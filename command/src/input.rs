@@ -6,15 +6,19 @@ use std::fs;
 use std::io::{self, IsTerminal, Read};
 use std::path::{Path, PathBuf};
 
+use crate::arguments::Wanted;
+use crate::calendar;
 use crate::calls::{Call, Place};
 use crate::library;
 use crate::output::{self, words, Failure};
 use crate::text;
 
-/// A month's calls, packed, and where each of them stands. Its name is as it is shown, its source as it was given.
+/// A month's calls, packed, and where each of them stands. Its name is as it is shown, its source as it was given; `settled` is which month it is,
+/// where that is known.
 pub struct Month {
     pub name: String,
     pub source: String,
+    pub settled: Option<calendar::Month>,
     pub file: Vec<u8>,
     pub calls: Vec<Call>,
 }
@@ -65,19 +69,21 @@ pub fn is_text(bytes: &[u8]) -> bool {
 }
 
 /// The text's packed calls; every bad line is named at once.
-pub fn packed(name: &OsStr, bytes: &[u8]) -> Result<Month, Failure> {
+pub fn packed(wanted: &Wanted, bytes: &[u8]) -> Result<Month, Failure> {
+    let name = &wanted.file;
     let shown = shown(name).into_owned();
     if bytes.starts_with(MARK) {
         return Err(Failure::new(format!(
             "{shown}: begins with a byte order mark; save it as UTF-8 without one"
         )));
     }
-    match text::packed(bytes, &folder(name)) {
-        Ok((file, calls)) => Ok(Month {
+    match text::packed(bytes, &folder(name), wanted.month) {
+        Ok(packed) => Ok(Month {
             name: shown,
             source: name.to_string_lossy().into_owned(),
-            file,
-            calls,
+            settled: packed.month,
+            file: packed.file,
+            calls: packed.calls,
         }),
         Err(complaints) => {
             let lines = complaints
@@ -110,7 +116,8 @@ pub fn unpacked(file: &[u8]) -> Vec<Call> {
 }
 
 /// The month that a file holds.
-pub fn month(name: &OsStr) -> Result<Month, Failure> {
+pub fn month(wanted: &Wanted) -> Result<Month, Failure> {
+    let name = &wanted.file;
     let bytes = read(name)?;
     let shown = shown(name);
     if bytes.iter().all(|byte| byte.is_ascii_whitespace()) {
@@ -122,11 +129,9 @@ pub fn month(name: &OsStr) -> Result<Month, Failure> {
         )));
     }
     if is_text(&bytes) {
-        let month = packed(name, &bytes)?;
+        let month = packed(wanted, &bytes)?;
         if month.calls.is_empty() {
-            return Err(Failure::new(format!(
-                "{shown}: has comments alone, and no calls"
-            )));
+            return Err(Failure::new(format!("{shown}: is text without a call")));
         }
         return Ok(month);
     }
@@ -134,6 +139,7 @@ pub fn month(name: &OsStr) -> Result<Month, Failure> {
     Ok(Month {
         name: shown.into_owned(),
         source: name.to_string_lossy().into_owned(),
+        settled: wanted.month,
         file: bytes,
         calls,
     })

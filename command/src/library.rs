@@ -2,8 +2,9 @@
 
 use crate::calls::{self, MOST_FIELDS, MOST_QUARTERS};
 use crate::entries::{
+    emorizugu_date, emorizugu_date_refusal, emorizugu_day, emorizugu_day_refusal,
     emorizugu_difference, emorizugu_figure, emorizugu_read, emorizugu_replay, emorizugu_sum,
-    emorizugu_version, emorizugu_write,
+    emorizugu_version, emorizugu_weekday, emorizugu_write,
 };
 
 /// The most versions that a desk holds, and its points.
@@ -322,6 +323,31 @@ impl Replay {
             ) as i64
         }
     }
+}
+
+/// A date's number after a settled month, or the number of the refusal.
+pub fn day(year: u64, month: u64, of_year: u64, of_month: u64, of_day: u64) -> Result<u64, u64> {
+    unsafe {
+        match emorizugu_day_refusal(year, month, of_year, of_month, of_day) {
+            0 => Ok(emorizugu_day(year, month, of_year, of_month, of_day)),
+            refused => Err(refused),
+        }
+    }
+}
+
+/// The first date with a number after a settled month, as year x 10,000 + month x 100 + day; or the number of the refusal.
+pub fn date(year: u64, month: u64, day: u64) -> Result<u64, u64> {
+    unsafe {
+        match emorizugu_date_refusal(year, month, day) {
+            0 => Ok(emorizugu_date(year, month, day)),
+            refused => Err(refused),
+        }
+    }
+}
+
+/// The weekday of a date, 1 for Monday to 7 for Sunday; 0 where the calendar has no such date.
+pub fn weekday(year: u64, month: u64, day: u64) -> u64 {
+    unsafe { emorizugu_weekday(year, month, day) }
 }
 
 /// The library's version.

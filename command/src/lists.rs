@@ -28,7 +28,7 @@ const FIGURES: &[Column] = &[
 
 /// Figures that are not 0, or all with `--all`.
 pub fn figures(wanted: &Wanted) -> Result<i32, Failure> {
-    let ran = month::run(&wanted.file)?;
+    let ran = month::run(wanted)?;
     let mut sheet = Sheet::new(wanted.form, FIGURES);
     let groups = || (1..=GROUPS).filter(|group| wanted.group.is_none_or(|asked| asked == *group));
     for run in (1..=2).filter(|run| wanted.run.is_none_or(|asked| asked == *run)) {
@@ -49,9 +49,19 @@ pub fn figures(wanted: &Wanted) -> Result<i32, Failure> {
     told(&ran, sheet)
 }
 
+/// The date of a day; nothing where there is none.
+fn date(date: &str) -> Cell<'_> {
+    if date.is_empty() {
+        Cell::Nothing
+    } else {
+        Cell::Word(date)
+    }
+}
+
 const LOG: &[Column] = &[
     Column("row", 4),
     Column("day", 3),
+    Column("date", -10),
     Column("point", 5),
     Column("run", 3),
     Column("version", 14),
@@ -66,7 +76,7 @@ fn picked(wanted: &Wanted, point: &Point) -> bool {
 
 /// The rows of the log in their own order. A point of the log has a version, so it is active.
 pub fn log(wanted: &Wanted) -> Result<i32, Failure> {
-    let ran = month::run(&wanted.file)?;
+    let ran = month::run(wanted)?;
     let mut sheet = Sheet::new(wanted.form, LOG);
     let of_group = |number: u64| {
         let mut points = ran.replay.points.iter();
@@ -77,6 +87,7 @@ pub fn log(wanted: &Wanted) -> Result<i32, Failure> {
             sheet.row(&[
                 number(at as u64 + 1),
                 number(row.day),
+                date(&ran.date(row.day)),
                 number(row.point),
                 number(row.run),
                 number(row.version),
@@ -92,6 +103,7 @@ const POINTS: &[Column] = &[
     Column("area", 4),
     Column("partner", 7),
     Column("since", 5),
+    Column("since_date", -10),
     Column("version", 14),
     Column("status", -26),
     Column("run_1", -5),
@@ -102,7 +114,7 @@ fn yes(counts: bool) -> Cell<'static> {
     Cell::Word(if counts { "yes" } else { "no" })
 }
 
-fn point_row(sheet: &mut Sheet, point: &Point, version: Option<&Version>) {
+fn point_row(sheet: &mut Sheet, ran: &Ran, point: &Point, version: Option<&Version>) {
     let counts = |run: usize, version: &Version| yes(point.selected[run] == version.version);
     sheet.row(&[
         number(point.number),
@@ -110,6 +122,7 @@ fn point_row(sheet: &mut Sheet, point: &Point, version: Option<&Version>) {
         number(point.area),
         number(point.partner),
         number(point.since),
+        date(&ran.date(point.since)),
         version.map_or(Cell::Nothing, |version| number(version.version)),
         version.map_or(Cell::Nothing, |version| {
             Cell::Word(name_in(&STATUSES, version.status))
@@ -121,7 +134,7 @@ fn point_row(sheet: &mut Sheet, point: &Point, version: Option<&Version>) {
 
 /// Each active point's series with its versions, and whether they count in run 1 and run 2.
 pub fn points(wanted: &Wanted) -> Result<i32, Failure> {
-    let ran = month::run(&wanted.file)?;
+    let ran = month::run(wanted)?;
     let mut sheet = Sheet::new(wanted.form, POINTS);
     for point in ran
         .replay
@@ -136,11 +149,11 @@ pub fn points(wanted: &Wanted) -> Result<i32, Failure> {
         let of_point = |version: &&Version| version.point == point.number;
         let mut versions = ran.replay.versions.iter().filter(of_point).peekable();
         if versions.peek().is_none() && wanted.run.is_none() {
-            point_row(&mut sheet, point, None);
+            point_row(&mut sheet, &ran, point, None);
         }
         versions
             .filter(counts)
-            .for_each(|version| point_row(&mut sheet, point, Some(version)));
+            .for_each(|version| point_row(&mut sheet, &ran, point, Some(version)));
     }
     told(&ran, sheet)
 }

@@ -2,8 +2,11 @@
 #![no_main]
 
 mod arguments;
+mod calendar;
 mod calls;
 mod causes;
+mod dates;
+mod days;
 mod entries;
 mod help;
 mod input;
@@ -24,7 +27,7 @@ use output::Failure;
 
 /// Everything was accepted.
 pub const ACCEPTED: i32 = 0;
-/// Some calls were refused, or the file is damaged behind answered calls.
+/// Some calls were refused, or the file is damaged behind answered calls; or a question to the calendar was refused.
 pub const REFUSED: i32 = 1;
 /// Nothing could be run, or the output could not be written.
 pub const NOTHING: i32 = 2;
@@ -56,6 +59,9 @@ fn perform(wanted: &Wanted) -> Result<i32, Failure> {
         Command::Page => page::write(wanted),
         Command::Pack => text::pack(wanted),
         Command::Print => text::print(wanted),
+        Command::Day => days::day(wanted),
+        Command::Date => days::date(wanted),
+        Command::Calendar => days::calendar(wanted),
     }
 }
 

@@ -1,7 +1,7 @@
 //! A month that was run.
 
-use std::ffi::OsStr;
-
+use crate::arguments::Wanted;
+use crate::calendar;
 use crate::input::{self, Month};
 use crate::library::{self, Replay};
 use crate::output::{self, Failure};
@@ -13,9 +13,9 @@ pub struct Ran {
     pub replay: Replay,
 }
 
-/// Runs the file of this name.
-pub fn run(name: &OsStr) -> Result<Ran, Failure> {
-    let month = input::month(name)?;
+/// Runs the file that is asked for.
+pub fn run(wanted: &Wanted) -> Result<Ran, Failure> {
+    let month = input::month(wanted)?;
     // One answer more than there are calls, so that a damaged file is told as such.
     let replay = library::replay(&month.file, month.calls.len() + 1);
     let ran = Ran { month, replay };
@@ -30,6 +30,16 @@ pub fn run(name: &OsStr) -> Result<Ran, Failure> {
 }
 
 impl Ran {
+    /// A day as it is shown: its number, and its date where the month is known.
+    pub fn day(&self, day: u64) -> String {
+        calendar::shown(self.month.settled, day)
+    }
+
+    /// The date of a day as lists show it; empty where there is none.
+    pub fn date(&self, day: u64) -> String {
+        calendar::dated(self.month.settled, day).map_or(String::new(), |date| date.to_string())
+    }
+
     /// What is wrong with the file.
     pub fn damage(&self) -> Option<String> {
         let (number, offset) = (self.replay.ending, self.replay.offset);

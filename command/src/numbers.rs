@@ -1,6 +1,6 @@
 //! Numbers as people write them: fields by number or by name, energies in watt-hours or kilowatt-hours.
 
-use crate::calls::{named, names_of};
+use crate::calls::{is_day, named, names_of};
 use crate::series::{few, Files};
 
 /// What a message file can carry: fields from 0 to 2^63 - 1, energies from -2^62 to 2^62 - 1.
@@ -28,6 +28,13 @@ fn grouped(word: &str) -> bool {
     let parts: Vec<&str> = digits.split(['.', ',', '\'', '_', '\u{a0}']).collect();
     let whole = |part: &&str| !part.is_empty() && part.bytes().all(|byte| byte.is_ascii_digit());
     parts.len() > 1 && parts.iter().all(whole) && parts[1..].iter().all(|part| part.len() == 3)
+}
+
+/// Whether a word is digits with marks between, as dates have them.
+fn like_a_date(word: &str) -> bool {
+    let parts: Vec<&str> = word.split(['-', '.', '/']).collect();
+    let digits = |part: &&str| !part.is_empty() && part.bytes().all(|byte| byte.is_ascii_digit());
+    parts.iter().all(digits) && (parts.len() > 2 || word.contains(['-', '/']))
 }
 
 /// The whole number of a word of digits, perhaps with a minus; None where it is none.
@@ -61,6 +68,9 @@ fn no_number(name: &str, word: &str) -> String {
             "{name} has zeros in front: {}; write a number without them, and its digits together",
             quoted(word)
         );
+    }
+    if is_day(name) && like_a_date(word) {
+        return format!("{name} is no date: {}; write YYYY-MM-DD", quoted(word));
     }
     format!("{name} is no whole number: {}", quoted(word))
 }

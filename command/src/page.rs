@@ -55,9 +55,15 @@ fn deltas(replay: &Replay) -> String {
     (0..=16).filter_map(row).collect()
 }
 
-fn version_row(point: &Point, version: Option<&Version>) -> String {
-    let [number_of, area, partner, since] =
-        [point.number, point.area, point.partner, point.since].map(|n| number(n as i64));
+/// The cells of a day: its number and its date.
+fn day(ran: &Ran, day: u64) -> String {
+    number(day as i64) + &word(&ran.date(day))
+}
+
+fn version_row(ran: &Ran, point: &Point, version: Option<&Version>) -> String {
+    let [number_of, area, partner] =
+        [point.number, point.area, point.partner].map(|n| number(n as i64));
+    let since = day(ran, point.since);
     let kind = word(name_in(&SERIES, point.kind));
     let counts = |run: usize, version: &Version| {
         word(if point.selected[run] == version.version {
@@ -81,7 +87,8 @@ fn version_row(point: &Point, version: Option<&Version>) -> String {
     format!("<tr>{number_of}{kind}{area}{partner}{since}{told}</tr>\n")
 }
 
-fn points(replay: &Replay) -> String {
+fn points(ran: &Ran) -> String {
+    let replay = &ran.replay;
     let of = |point: &Point| -> String {
         let versions: Vec<&Version> = replay
             .versions
@@ -89,25 +96,26 @@ fn points(replay: &Replay) -> String {
             .filter(|version| version.point == point.number)
             .collect();
         if versions.is_empty() {
-            return version_row(point, None);
+            return version_row(ran, point, None);
         }
         versions
             .iter()
-            .map(|version| version_row(point, Some(version)))
+            .map(|version| version_row(ran, point, Some(version)))
             .collect()
     };
     replay.points.iter().map(of).collect()
 }
 
-fn log(replay: &Replay) -> String {
+fn log(ran: &Ran) -> String {
     let cells = |(at, row): (usize, &crate::library::LogRow)| {
-        let cells: String = [at as u64 + 1, row.day, row.point, row.run]
-            .iter()
-            .map(|n| number(*n as i64))
-            .collect();
-        format!("<tr>{cells}<td data-n=\"{0}\">{0}</td></tr>\n", row.version)
+        let day = day(ran, row.day);
+        let [at, point, run] = [at as u64 + 1, row.point, row.run].map(|n| number(n as i64));
+        format!(
+            "<tr>{at}{day}{point}{run}<td data-n=\"{0}\">{0}</td></tr>\n",
+            row.version
+        )
     };
-    replay.log.iter().enumerate().map(cells).collect()
+    ran.replay.log.iter().enumerate().map(cells).collect()
 }
 
 /// The most refused calls that the page names one by one.
@@ -143,14 +151,14 @@ fn refused(ran: &Ran) -> String {
     format!("<h2 class=\"bad\">Refused calls</h2>{first}<div class=\"scroll short\"><ol class=\"calls\" id=\"refused\">\n{items}{more}</ol></div>")
 }
 
-fn changed(replay: &Replay) -> String {
-    let changes = changes(&replay.log);
+fn changed(ran: &Ran) -> String {
+    let changes = changes(&ran.replay.log);
     if changes.is_empty() {
         return String::new();
     }
     let items: String = changes
         .iter()
-        .map(|change| format!("<li>{}</li>\n", escaped(&change.line())))
+        .map(|change| format!("<li>{}</li>\n", escaped(&change.line(ran))))
         .collect();
     format!("<h2>Selections that changed</h2><div class=\"scroll short\"><ol class=\"calls\" id=\"changed\">\n{items}</ol></div>")
 }
@@ -224,18 +232,17 @@ fn groups(replay: &Replay) -> (String, String) {
 }
 
 /// The deadlines of the opening that was accepted.
-fn deadlines(ran: &Ran) -> String {
+fn deadlines(ran: &Ran) -> Option<[u64; 3]> {
     let mut calls = ran.month.calls.iter().zip(&ran.replay.answers);
-    let opening = calls
-        .find(|(call, answer)| call.kind == OPEN && **answer == 0)
-        .map(|(call, _)| call);
-    opening.map_or(String::new(), |call| {
-        format!(
-            "{},{},{}",
-            call.field("first"),
-            call.field("clearing"),
-            call.field("correction")
-        )
+    let (call, _) = calls.find(|(call, answer)| call.kind == OPEN && **answer == 0)?;
+    Some(["first", "clearing", "correction"].map(|name| call.field(name)))
+}
+
+/// The deadlines in words.
+fn deadlines_told(ran: &Ran) -> String {
+    deadlines(ran).map_or("F, C and K".to_string(), |days| {
+        let [first, clearing, correction] = days.map(|day| ran.day(day));
+        format!("F, day {first}; C, day {clearing}; K, day {correction}")
     })
 }
 
@@ -248,12 +255,15 @@ pub fn page(ran: &Ran) -> String {
         .iter()
         .map(|row| format!("[{},{},{},{}]", row.day, row.point, row.run, row.version))
         .collect();
+    let days = deadlines(ran).map_or(String::new(), |days| {
+        days.map(|day| day.to_string()).join(",")
+    });
     let data = format!(
         "{{\"name\":{},\"quarters\":{},\"day\":{},\"deadlines\":[{}],\"log\":[{}],\"groups\":{figures}}}",
         json_word(&ran.month.name),
         replay.quarters,
         replay.day,
-        deadlines(ran),
+        days,
         log_rows.join(",")
     );
     let damage = ran.damage().map_or(String::new(), |damage| {
@@ -270,11 +280,12 @@ pub fn page(ran: &Ran) -> String {
         ("headline", escaped(&headline(ran))),
         ("damage", damage),
         ("refused", refused(ran)),
-        ("changes", changed(replay)),
+        ("changes", changed(ran)),
         ("groups", rows),
         ("deltas", deltas(replay)),
-        ("points", points(replay)),
-        ("log", log(replay)),
+        ("points", points(ran)),
+        ("deadlines", deadlines_told(ran)),
+        ("log", log(ran)),
         ("data", data),
     ])
 }
@@ -294,7 +305,7 @@ fn filled(texts: &[(&str, String)]) -> String {
 
 /// `desk page`.
 pub fn write(wanted: &Wanted) -> Result<i32, Failure> {
-    let ran = month::run(&wanted.file)?;
+    let ran = month::run(wanted)?;
     let page = page(&ran);
     ran.warn();
     output::deliver(&wanted.to, page.as_bytes())?;

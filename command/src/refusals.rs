@@ -2,6 +2,7 @@
 
 use std::collections::{BTreeMap, HashMap};
 
+use crate::calendar::{self, Month};
 use crate::calls::{counted, Call, ACTIVATE, ASSIGN, DEACTIVATE, NOTICE, OPEN, SETTLE, SUBMIT};
 use crate::causes;
 use crate::library::{Reader, VERSIONS};
@@ -33,6 +34,8 @@ impl Refusal<'_> {
 /// The calls that the library accepted so far, by what they set, and those that it refused.
 #[derive(Default)]
 struct Before<'a> {
+    /// Which month it is, where that is known.
+    month: Option<Month>,
     opened: Option<&'a Call>,
     day: Option<&'a Call>,
     active: HashMap<u64, &'a Call>,
@@ -94,6 +97,11 @@ impl<'a> Before<'a> {
         self.opened.map_or(0, |call| call.field(field))
     }
 
+    /// A day as it is shown.
+    fn shown(&self, day: u64) -> String {
+        calendar::shown(self.month, day)
+    }
+
     fn opening_place(&self) -> String {
         self.opened.map_or(String::new(), |call| call.place.short())
     }
@@ -112,7 +120,7 @@ impl<'a> Before<'a> {
         match number {
             1 => self.not_open(),
             3 => self.bad_field(call, energies),
-            4 => bad_opening(call),
+            4 => self.bad_opening(call),
             5 | 11 | 26 | 27 => self.bad_day(call, number),
             6 => (
                 format!("{} opened the desk", self.opening_place()),
@@ -189,44 +197,39 @@ impl<'a> Before<'a> {
             _ => ("clearing", "clearing deadline"),
         };
         let limit = self.opening(deadline);
-        let opening = self.opening_place();
+        let opening = self.opened.map(|call| call.place);
+        let (given, last) = (self.shown(day), calendar::noted(self.month, limit, opening));
         match number {
-            5 => {
-                let desk = self.day.map_or(0, |by| by.field("day"));
-                let by = self.day.map_or(opening, |by| by.place.short());
-                let why = format!("day {day} lies before the desk's day {desk}, which {by} set");
-                (
-                    why,
-                    format!(
-                        "give it day {desk} or later; if day {desk} is a mistake, correct {by}"
-                    ),
-                    self.day,
-                )
-            }
+            5 => self.past_day(day),
             27 => {
-                let why =
-                    format!("day {day} does not lie behind the {name}, day {limit} ({opening})");
+                let why = format!("day {given} does not lie behind the {name}, day {last}");
+                let (run, next) = (call.field("run"), self.shown(limit + 1));
                 (
                     why,
-                    format!(
-                        "settle run {} on day {} or later",
-                        call.field("run"),
-                        limit + 1
-                    ),
+                    format!("settle run {run} on day {next} or later"),
                     None,
                 )
             }
             _ => {
-                let why = format!("day {day} lies behind the {name}, day {limit} ({opening})");
-                (
-                    why,
-                    format!(
-                        "the last day for it is {limit}; correct the day, or leave the call out"
-                    ),
-                    None,
-                )
+                let why = format!("day {given} lies behind the {name}, day {last}");
+                let mend = format!(
+                    "the last day for it is {}; correct the day, or leave the call out",
+                    self.shown(limit)
+                );
+                (why, mend, None)
             }
         }
+    }
+
+    fn past_day(&self, day: u64) -> Words<'a> {
+        let desk = self.day.map_or(0, |by| by.field("day"));
+        let by = self.day.map_or(self.opening_place(), |by| by.place.short());
+        let (given, least) = (self.shown(day), self.shown(desk));
+        (
+            format!("day {given} lies before the desk's day {least}, which {by} set"),
+            format!("give it day {least} or later; if day {desk} is a mistake, correct {by}"),
+            self.day,
+        )
     }
 
     fn bad_point(&self, call: &'a Call, number: u64) -> Option<Words<'a>> {
@@ -269,11 +272,13 @@ impl<'a> Before<'a> {
             _ => {
                 let since = by?.field("day");
                 let why = format!(
-                    "day {} lies less than two days after day {since}, on which {} activated point {point}",
-                    call.field("day"),
+                    "day {} lies less than two days after day {}, on which {} activated point {point}",
+                    self.shown(call.field("day")),
+                    self.shown(since),
                     by?.place.short()
                 );
-                (why, format!("submit on day {} or later", since + 2), by)
+                let least = self.shown(since + 2);
+                (why, format!("submit on day {least} or later"), by)
             }
         })
     }
@@ -337,9 +342,10 @@ impl<'a> Before<'a> {
                 }
                 let (by, limit) = (by?, self.opening("first"));
                 let why = format!(
-                    "version {version} is no check data: {} submitted it on day {}, and the first delivery lasts to day {limit}",
+                    "version {version} is no check data: {} submitted it on day {}, and the first delivery lasts to day {}",
                     by.place.short(),
-                    by.field("day")
+                    self.shown(by.field("day")),
+                    self.shown(limit)
                 );
                 (
                     why,
@@ -403,6 +409,27 @@ impl<'a> Before<'a> {
         }
         (wrong.join("; "), "correct what is named".to_string(), None)
     }
+
+    fn bad_opening(&self, call: &Call) -> Words<'a> {
+        let mut wrong = Vec::new();
+        let [quarters, first, clearing, correction] =
+            ["quarters", "first", "clearing", "correction"].map(|name| call.field(name));
+        if !(1..=2980).contains(&quarters) {
+            wrong.push(format!("quarters {quarters} is not 1 to 2980"));
+        }
+        if !(1 <= first && first < clearing && clearing < correction && correction <= 399) {
+            let shown = [first, clearing, correction].map(|day| self.shown(day));
+            wrong.push(format!(
+                "deadlines {} do not rise from 1 to 399",
+                shown.join(", ")
+            ));
+        }
+        wrong.extend(bad_deltas(call));
+        if wrong.is_empty() {
+            return (causes::meaning(4), causes::mend(4), None);
+        }
+        (wrong.join("; "), "correct what is named".to_string(), None)
+    }
 }
 
 const MOST_ENERGY: u64 = 1_000_000_000_000;
@@ -450,34 +477,19 @@ fn unfit(call: &Call) -> String {
     format!("kind {kind} with area {area} and partner {partner} do not go together: {takes}")
 }
 
-fn bad_opening(call: &Call) -> Words<'_> {
-    let mut wrong = Vec::new();
-    let [quarters, first, clearing, correction] =
-        ["quarters", "first", "clearing", "correction"].map(|name| call.field(name));
-    if !(1..=2980).contains(&quarters) {
-        wrong.push(format!("quarters {quarters} is not 1 to 2980"));
-    }
-    if !(1 <= first && first < clearing && clearing < correction && correction <= 399) {
-        wrong.push(format!(
-            "deadlines {first}, {clearing}, {correction} do not rise from 1 to 399"
-        ));
-    }
-    for (name, group) in call.form().fields.iter().zip(&call.fields).skip(4) {
-        if !(1..=64).contains(group) {
-            wrong.push(format!(
-                "the delta group of {} is {group}, not 1 to 64",
-                if *name == "T" {
-                    "T".to_string()
-                } else {
-                    format!("area {name}")
-                }
-            ));
-        }
-    }
-    if wrong.is_empty() {
-        return (causes::meaning(4), causes::mend(4), None);
-    }
-    (wrong.join("; "), "correct what is named".to_string(), None)
+/// The delta groups of an opening that are none.
+fn bad_deltas(call: &Call) -> Vec<String> {
+    let bad = |(name, group): (&&str, &u64)| {
+        let whose = if *name == "T" {
+            "T".to_string()
+        } else {
+            format!("area {name}")
+        };
+        (!(1..=64).contains(group))
+            .then(|| format!("the delta group of {whose} is {group}, not 1 to 64"))
+    };
+    let fields = call.form().fields.iter().zip(&call.fields);
+    fields.skip(4).filter_map(bad).collect()
 }
 
 /// The energies of a refused submission, for the words on a field.
@@ -492,7 +504,10 @@ fn energies_of(ran: &Ran, call: &Call, number: u64) -> Vec<i64> {
 
 /// Every refused call of a month.
 pub fn of(ran: &Ran) -> Vec<Refusal<'_>> {
-    let mut before = Before::default();
+    let mut before = Before {
+        month: ran.month.settled,
+        ..Before::default()
+    };
     let mut refusals = Vec::new();
     // Where a refused call comes from, by its number.
     let mut roots: HashMap<usize, &Call> = HashMap::new();

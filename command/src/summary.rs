@@ -94,13 +94,14 @@ pub struct Change {
 }
 
 impl Change {
-    pub fn line(&self) -> String {
+    pub fn line(&self, ran: &Ran) -> String {
         let LogRow {
-            day,
             point,
             run,
             version,
+            ..
         } = self.row;
+        let day = ran.day(self.row.day);
         let old = self.before.version;
         let of = if self.before.run == run {
             ""
@@ -132,19 +133,20 @@ pub fn changes(log: &[LogRow]) -> Vec<Change> {
 /// The most changes of a selection that the summary names one by one.
 const NAMED: usize = 20;
 
-fn selection(replay: &Replay, source: &str) -> String {
-    let changes = changes(&replay.log);
+fn selection(ran: &Ran) -> String {
+    let changes = changes(&ran.replay.log);
     if changes.is_empty() {
         return String::new();
     }
     let mut text = format!("\n{} changed\n", count(changes.len(), "selection"));
     for change in changes.iter().take(NAMED) {
-        text.push_str(&format!("    {}\n", change.line()));
+        text.push_str(&format!("    {}\n", change.line(ran)));
     }
     if changes.len() > NAMED {
         text.push_str(&format!(
-            "    and {} more: desk log {source}\n",
-            changes.len() - NAMED
+            "    and {} more: desk log {}\n",
+            changes.len() - NAMED,
+            ran.month.source
         ));
     }
     text
@@ -212,7 +214,7 @@ pub fn headline(ran: &Ran) -> String {
     }
     format!(
         "{calls}, {refused}; day {}; {}; {}",
-        replay.day,
+        ran.day(replay.day),
         settled(replay),
         count(replay.quarters, "quarter hour")
     )
@@ -220,7 +222,7 @@ pub fn headline(ran: &Ran) -> String {
 
 /// `desk run`.
 pub fn run(wanted: &Wanted) -> Result<i32, Failure> {
-    let ran = month::run(&wanted.file)?;
+    let ran = month::run(wanted)?;
     let paint = Paint {
         on: output::colours(),
     };
@@ -247,7 +249,7 @@ pub fn run(wanted: &Wanted) -> Result<i32, Failure> {
         ));
     }
     if ran.replay.quarters > 0 {
-        text.push_str(&selection(&ran.replay, &ran.month.source));
+        text.push_str(&selection(&ran));
         text.push_str(&groups(&ran.replay, &paint));
     }
     output::write(text.as_bytes())?;

@@ -4,7 +4,9 @@ use std::io::{self, IsTerminal};
 use std::path::Path;
 
 use crate::arguments::Wanted;
-use crate::calls::{Call, Place, DELTAS, KINDS, OPEN, SUBMIT};
+use crate::calendar::{self, Month};
+use crate::calls::{is_day, Call, Place, DELTAS, KINDS, OPEN, SUBMIT};
+use crate::dates::Dates;
 use crate::library::{self, Read, Reader};
 use crate::numbers::{self, quoted, Unit};
 use crate::output::{self, Failure};
@@ -54,6 +56,7 @@ impl<'a> Given<'a> {
         names: &[&str],
         others: Option<&'a str>,
         further: &str,
+        dates: &mut Dates,
     ) -> Result<Vec<u64>, String> {
         if let Some((name, _)) = self.fields.iter().find(|(name, _)| !names.contains(name)) {
             return Err(format!(
@@ -78,9 +81,16 @@ impl<'a> Given<'a> {
         }
         values
             .iter()
-            .map(|(name, value)| numbers::field(name, value.unwrap_or("")))
+            .map(|(name, value)| number(name, value.unwrap_or(""), dates))
             .collect()
     }
+}
+
+/// A field's number, by a date, by its name or in digits.
+fn number(name: &str, word: &str, dates: &mut Dates) -> Result<u64, String> {
+    dates
+        .number(name, word)
+        .unwrap_or_else(|| numbers::field(name, word))
 }
 
 fn unit_of(word: Option<&str>) -> Result<Unit, String> {
@@ -91,8 +101,14 @@ fn unit_of(word: Option<&str>) -> Result<Unit, String> {
     }
 }
 
+/// What a text's lines refer to: files with series, and the month of dates.
+struct Around {
+    files: Files,
+    dates: Dates,
+}
+
 /// A line's call and its energies.
-fn call_of(words: &[&str], files: &mut Files) -> Result<(u64, Vec<u64>, Vec<u64>), String> {
+fn call_of(words: &[&str], around: &mut Around) -> Result<(u64, Vec<u64>, Vec<u64>), String> {
     let Some(at) = KINDS.iter().position(|kind| kind.name == words[0]) else {
         let names: Vec<&str> = KINDS.iter().map(|kind| kind.name).collect();
         return Err(format!(
@@ -103,6 +119,7 @@ fn call_of(words: &[&str], files: &mut Files) -> Result<(u64, Vec<u64>, Vec<u64>
     };
     let (kind, form) = (at as u64 + 1, &KINDS[at]);
     let mut given = Given::read(form.name, &words[1..])?;
+    let Around { files, dates } = around;
     match kind {
         OPEN => {
             let others = given.take("others");
@@ -111,20 +128,24 @@ fn call_of(words: &[&str], files: &mut Files) -> Result<(u64, Vec<u64>, Vec<u64>
             }
             Ok((
                 kind,
-                given.numbers(form.fields, others, ", others")?,
+                given.numbers(form.fields, others, ", others", dates)?,
                 Vec::new(),
             ))
         }
         SUBMIT => {
             let unit = unit_of(given.take("unit"))?;
             let series = given.take("energies");
-            let fields = given.numbers(form.fields, None, ", energies, unit");
+            let fields = given.numbers(form.fields, None, ", energies, unit", dates);
             let Some(series) = series else {
                 return Err(fields.err().unwrap_or("submit lacks energies".to_string()));
             };
             Ok((kind, fields?, numbers::energies(series, unit, files)?))
         }
-        _ => Ok((kind, given.numbers(form.fields, None, "")?, Vec::new())),
+        _ => Ok((
+            kind,
+            given.numbers(form.fields, None, "", dates)?,
+            Vec::new(),
+        )),
     }
 }
 
@@ -144,8 +165,8 @@ fn words_of(line: &[u8]) -> Result<Vec<&str>, String> {
         .collect())
 }
 
-/// The carriage returns of a text, told once.
-fn returns(text: &[u8]) -> Option<String> {
+/// The carriage returns of a text, told at the first.
+fn returns(text: &[u8]) -> Option<(usize, String)> {
     let mut lines = text.split(|byte| *byte == b'\n').zip(1..);
     let has = |(line, _): &(&[u8], usize)| content(line).contains(&b'\r');
     let (_, first) = lines.find(has)?;
@@ -153,23 +174,28 @@ fn returns(text: &[u8]) -> Option<String> {
         0 => String::new(),
         others => format!(", as {} lines have", others + 1),
     };
-    Some(format!(
-        "line {first}: has a carriage return{others}; line ends are line feeds alone"
+    Some((
+        first,
+        format!("has a carriage return{others}; line ends are line feeds alone"),
     ))
 }
 
-/// The call of a line, written behind the bytes of a file; a line without words has none.
+/// The call of a line, written behind the bytes of a file; a line without words has none, and one that names the month.
 fn packed_line(
     line: &[u8],
     place: Place,
     file: &mut Vec<u8>,
-    files: &mut Files,
+    around: &mut Around,
 ) -> Result<Option<Call>, String> {
     let words = words_of(line)?;
-    if words.is_empty() {
-        return Ok(None);
+    around.dates.at = place.line;
+    match words[..] {
+        [] => return Ok(None),
+        ["month", ref named @ ..] => return around.dates.name(named).map(|()| None),
+        [word, ..] if word.starts_with("month=") => return around.dates.name(&[]).map(|()| None),
+        _ => {}
     }
-    let (kind, fields, energies) = call_of(&words, files)?;
+    let (kind, fields, energies) = call_of(&words, around)?;
     library::write(kind, &fields, &energies, file).map_err(causes::meaning)?;
     Ok(Some(Call {
         place,
@@ -179,26 +205,40 @@ fn packed_line(
     }))
 }
 
-/// The message file of a text, with its calls; or what is wrong with each bad line.
-pub fn packed(text: &[u8], folder: &Path) -> Result<(Vec<u8>, Vec<Call>), Vec<String>> {
-    let (mut file, mut calls, mut files) = (Vec::new(), Vec::new(), Files::new(folder));
-    let mut complaints: Vec<String> = returns(text).into_iter().collect();
+/// The message file of a text, with its calls and the month that it names.
+pub struct Packed {
+    pub file: Vec<u8>,
+    pub calls: Vec<Call>,
+    pub month: Option<Month>,
+}
+
+/// A text, packed; `asked` is the month of `--month`. Or what is wrong with each bad line.
+pub fn packed(text: &[u8], folder: &Path, asked: Option<Month>) -> Result<Packed, Vec<String>> {
+    let (mut file, mut calls) = (Vec::new(), Vec::new());
+    let mut around = Around {
+        files: Files::new(folder),
+        dates: Dates::new(asked),
+    };
+    let mut complaints: Vec<(usize, String)> = returns(text).into_iter().collect();
     for (line, number) in text.split(|byte| *byte == b'\n').zip(1..) {
         let place = Place {
             line: number,
             number: calls.len() + 1,
             offset: file.len(),
         };
-        match packed_line(line, place, &mut file, &mut files) {
+        match packed_line(line, place, &mut file, &mut around) {
             Ok(call) => calls.extend(call),
-            Err(wrong) => complaints.push(format!("line {number}: {wrong}")),
+            Err(wrong) => complaints.push((number, wrong)),
         }
     }
+    complaints.extend(around.dates.complaint());
     if complaints.is_empty() {
-        Ok((file, calls))
-    } else {
-        Err(complaints)
+        let month = around.dates.month();
+        return Ok(Packed { file, calls, month });
     }
+    complaints.sort_by_key(|(line, _)| *line);
+    let told = |(line, wrong)| format!("line {line}: {wrong}");
+    Err(complaints.into_iter().map(told).collect())
 }
 
 /// `desk pack`.
@@ -215,7 +255,7 @@ pub fn pack(wanted: &Wanted) -> Result<i32, Failure> {
             "{shown}: is no text; `desk print` shows a message file as text"
         )));
     }
-    let month = input::packed(&wanted.file, &bytes)?;
+    let month = input::packed(wanted, &bytes)?;
     if month.calls.is_empty() {
         output::warn(&format!("{shown}: has no calls; the message file is empty"));
     }
@@ -223,11 +263,14 @@ pub fn pack(wanted: &Wanted) -> Result<i32, Failure> {
     Ok(ACCEPTED)
 }
 
-/// A call as a line.
-fn line_of(call: &Call, reader: &Reader) -> String {
+/// A call as a line; days as dates where the month is known.
+fn line_of(call: &Call, reader: &Reader, month: Option<Month>) -> String {
     let mut line = call.form().name.to_string();
     for (name, number) in call.form().fields.iter().zip(&call.fields) {
-        line.push_str(&format!(" {name}={number}"));
+        let month = month.filter(|_| is_day(name));
+        let date = calendar::dated(month, *number);
+        let shown = date.map_or(number.to_string(), |date| date.to_string());
+        line.push_str(&format!(" {name}={shown}"));
     }
     if call.kind == SUBMIT {
         let energies: Vec<String> = reader
@@ -244,11 +287,13 @@ fn line_of(call: &Call, reader: &Reader) -> String {
 /// `desk print`.
 pub fn print(wanted: &Wanted) -> Result<i32, Failure> {
     let bytes = input::read(&wanted.file)?;
-    let file = if input::is_text(&bytes) {
-        input::packed(&wanted.file, &bytes)?.file
+    let (file, month) = if input::is_text(&bytes) {
+        let month = input::packed(wanted, &bytes)?;
+        (month.file, month.settled)
     } else {
-        bytes
+        (bytes, wanted.month)
     };
+    let named = month.map_or(String::new(), |month| format!("month {month}\n"));
     let mut reader = Reader::new(&file);
     let mut text = String::new();
     let status = loop {
@@ -257,7 +302,7 @@ pub fn print(wanted: &Wanted) -> Result<i32, Failure> {
                 let offset = call.offset;
                 text.push_str(&format!(
                     "{}  # offset {offset}\n",
-                    line_of(&call.into(), &reader)
+                    line_of(&call.into(), &reader, month)
                 ));
             }
             Read::End => break ACCEPTED,
@@ -277,6 +322,6 @@ pub fn print(wanted: &Wanted) -> Result<i32, Failure> {
             input::shown(&wanted.file)
         ));
     }
-    output::deliver(&wanted.to, text.as_bytes())?;
+    output::deliver(&wanted.to, (named + &text).as_bytes())?;
     Ok(status)
 }

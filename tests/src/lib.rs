@@ -1,5 +1,5 @@
-//! A second implementation of document 01, written from the paper alone, and what its comparison with the proved
-//! libraries needs. The comparisons themselves stand in `tests/`, one file for each thing compared.
+//! A second implementation of document 01 and of document 02's calendar, written from the papers alone, and what its
+//! comparison with the proved libraries needs. The comparisons themselves stand in `tests/`, one file for each thing compared.
 //!
 //! | module | what it is |
 //! |---|---|
@@ -8,6 +8,7 @@
 //! | `call` | the nine calls and their fields |
 //! | `desk`, `worked` | second implementation: the plain desk, and what its list of calls says |
 //! | `replay` | second implementation: a whole file through the plain desk |
+//! | `calendar` | second implementation: working days, and dates as day numbers |
 //! | `program` | second implementation: what the desk program prints; and a run of the program |
 //! | `numbers` | the message file's answers as numbers in slices, the form in which `host` gives them |
 //! | `linked` | the functions of the static libraries, each behind a safe function |
@@ -22,6 +23,7 @@
 
 #![warn(missing_docs)]
 
+pub mod calendar;
 pub mod call;
 pub mod compare;
 pub mod counts;

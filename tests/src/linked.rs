@@ -4,9 +4,11 @@
 #[path = "../../command/src/entries.rs"]
 mod entries;
 
+use crate::calendar::{Date, Month};
 use entries::{
-    emorizugu_figure, emorizugu_figure_refusal, emorizugu_file_offset, emorizugu_file_refusal,
-    emorizugu_read, emorizugu_replay, emorizugu_write,
+    emorizugu_date, emorizugu_date_refusal, emorizugu_day, emorizugu_day_refusal, emorizugu_figure,
+    emorizugu_figure_refusal, emorizugu_file_offset, emorizugu_file_refusal, emorizugu_read,
+    emorizugu_replay, emorizugu_weekday, emorizugu_write,
 };
 
 extern "C" {
@@ -109,6 +111,31 @@ pub fn write(kind: u64, fields: &[u64], series: &[u64], output: &mut [u8], out: 
             out.len(),
         )
     }
+}
+
+/// `emorizugu_day_refusal`.
+pub fn day_refusal(settled: Month, date: Date) -> u64 {
+    unsafe { emorizugu_day_refusal(settled.0, settled.1, date.0, date.1, date.2) }
+}
+
+/// `emorizugu_day`.
+pub fn day(settled: Month, date: Date) -> u64 {
+    unsafe { emorizugu_day(settled.0, settled.1, date.0, date.1, date.2) }
+}
+
+/// `emorizugu_date_refusal`.
+pub fn date_refusal(settled: Month, number: u64) -> u64 {
+    unsafe { emorizugu_date_refusal(settled.0, settled.1, number) }
+}
+
+/// `emorizugu_date`.
+pub fn date(settled: Month, number: u64) -> u64 {
+    unsafe { emorizugu_date(settled.0, settled.1, number) }
+}
+
+/// `emorizugu_weekday`.
+pub fn weekday(date: Date) -> u64 {
+    unsafe { emorizugu_weekday(date.0, date.1, date.2) }
 }
 
 /// `drive_script`.

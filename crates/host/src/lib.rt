@@ -1,5 +1,6 @@
 // What the host program, written in C, reads: plain numbers and byte slices.
 pub mod call;
+pub mod days;
 pub mod figure;
 pub mod file;
 pub mod month;

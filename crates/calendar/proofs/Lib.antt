@@ -1,0 +1,9 @@
+pub mod Back
+pub mod Cases
+pub mod Counts
+pub mod Days
+pub mod Entries
+pub mod Lengths
+pub mod Reckoning
+pub mod Theorems
+pub mod Walking

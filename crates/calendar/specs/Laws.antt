@@ -1,0 +1,97 @@
+-- The calendar in other words: what judges the definitions, and what the answers mean to those who read them.
+use Prim.Native.Nat.{ℕ, zero, suc, _+_, _/_, _%_, _≤_, _<_}
+use mathlib.Core.Path.{_≡_}
+use mathlib.Core.Bool.{cond}
+use mathlib.Core.List.{List, [], _∷_}
+use mathlib.Core.Logic.{_⊎_}
+use lib.Dec.{ltb}
+use Rattle.quantity.specs.Meaning.{Between}
+use Rattle.calendar.specs.declared.Month.{Month}
+use Rattle.calendar.specs.declared.Date.{Date}
+use Rattle.calendar.specs.declared.DayAnswer.the-variants.{NoDay}
+use Rattle.calendar.specs.declared.DateAnswer.{DateAnswer}
+use Rattle.calendar.specs.declared.DateAnswer.the-variants.{Dated, NoDate}
+use Rattle.calendar.specs.Date.{leapDay, daysIn, IsMonth, IsDate, dateNamed, monthOf, lastOf, lengthOf, dayOfYear, weekday, digitsOf}
+use Rattle.calendar.specs.Rule.{easterDay, working}
+use Rattle.calendar.specs.Count.{one, numberOf}
+use Rattle.calendar.specs.Answer.{number, dayFor, FirstWith, dayRefusal, dayNumber, dateRefusal, dateDigits, OfFirst}
+
+-- the first day of the month after
+abbrev pub firstAfter : Month → Date
+firstAfter m = cond (ltb (m .month) 12) (dateNamed (m .year) (m .month + 1) 1) (dateNamed (m .year + 1) 1 1)
+
+-- the day after
+abbrev pub nextDay : Date → Date
+nextDay d = cond (ltb (d .day) (lengthOf (monthOf d))) (dateNamed (d .year) (d .month) (d .day + 1)) (firstAfter (monthOf d))
+
+-- so many days behind the month's last one
+unfoldable pub after : Month → ℕ → Date
+after m zero = lastOf m
+after m (suc k) = nextDay (after m k)
+
+-- how many of them are working days, day by day
+unfoldable pub workingAfter : Month → ℕ → ℕ
+workingAfter m zero = 0
+workingAfter m (suc k) = workingAfter m k + one (working (after m (suc k)))
+
+abbrev pub weekdayOf : Date → ℕ
+weekdayOf d = weekday (d .year) (dayOfYear d)
+
+-- the last day of those years
+abbrev pub lastDate : Date
+lastDate = dateNamed 2059 12 31
+
+-- the lengths of a year's months
+abbrev pub lengthsOf : (year : ℕ) → List ℕ
+lengthsOf y =
+    daysIn y 1 ∷ daysIn y 2 ∷ daysIn y 3 ∷ daysIn y 4 ∷ daysIn y 5 ∷ daysIn y 6 ∷ daysIn y 7 ∷ daysIn y 8 ∷ daysIn y 9 ∷ daysIn y 10 ∷ daysIn y 11 ∷ daysIn y 12 ∷ []
+
+-- so many years from one on, each with a list's element: what is said of it
+abbrev pub EachYear : (year : ℕ) → List ℕ → (ℕ → ℕ → Type 0) → Type 0
+EachYear y [] P = Unit {0}
+EachYear y (n ∷ l) P = P y n × EachYear (suc y) l P
+
+-- 2020, 2024 .. 2056 have a day more
+abbrev pub leapDays : List ℕ
+leapDays =
+    1 ∷ 0 ∷ 0 ∷ 0 ∷ 1 ∷ 0 ∷ 0 ∷ 0 ∷ 1 ∷ 0 ∷ 0 ∷ 0 ∷ 1 ∷ 0 ∷ 0 ∷ 0 ∷ 1 ∷ 0 ∷ 0 ∷ 0 ∷ 1 ∷ 0 ∷ 0 ∷ 0 ∷ 1 ∷ 0 ∷ 0 ∷ 0 ∷ 1 ∷ 0 ∷ 0 ∷ 0 ∷ 1 ∷ 0 ∷ 0 ∷ 0 ∷ 1 ∷ 0 ∷ 0 ∷ 0 ∷ []
+
+-- Easter Sunday of each year, month and day: 12 April 2020, 4 April 2021 .. 25 April 2038, 18 April 2049, 30 March 2059
+abbrev pub easterDates : List ℕ
+easterDates =
+    412 ∷ 404 ∷ 417 ∷ 409 ∷ 331 ∷ 420 ∷ 405 ∷ 328 ∷ 416 ∷ 401 ∷ 421 ∷ 413 ∷ 328 ∷ 417 ∷ 409 ∷ 325 ∷ 413 ∷ 405 ∷ 425 ∷ 410 ∷ 401 ∷ 421 ∷ 406 ∷ 329 ∷ 417 ∷ 409 ∷ 325 ∷ 414 ∷ 405 ∷ 418 ∷ 410 ∷ 402 ∷ 421 ∷ 406 ∷ 329 ∷ 418 ∷ 402 ∷ 422 ∷ 414 ∷ 330 ∷ []
+
+-- the definitions of dates and Easter, judged in numbers
+pub record Reckoned : Type 0 where
+  -- "1 January 2020" was a Wednesday, and each day has the weekday behind that of the day before
+  pub first-weekday : weekdayOf (dateNamed 2020 1 1) ≡ 3
+  pub next-weekday : (d : Date) → IsDate d → nextDay d .year ≤ 2059 → weekdayOf (nextDay d) ≡ weekdayOf d % 7 + 1
+  -- how long months are
+  pub leap-years : EachYear 2020 leapDays (λ (y n : ℕ). leapDay y ≡ n)
+  pub lengths : (y : ℕ) → lengthsOf y ≡ 31 ∷ (28 + leapDay y) ∷ 31 ∷ 30 ∷ 31 ∷ 30 ∷ 31 ∷ 31 ∷ 30 ∷ 31 ∷ 30 ∷ 31 ∷ []
+  -- "Easter by the Gregorian rule"
+  pub easters : EachYear 2020 easterDates (λ (y n : ℕ). easterDay y ≡ dayOfYear (dateNamed y (n / 100) (n % 100)))
+
+-- what a date's number and a number's date are, for any settled month
+pub record Answers (m : Month) : Type 0 where
+  -- "A date's number counts the working days after the settled month up to and including it", day by day
+  pub counts : (k : ℕ) → IsMonth m → after m k .year ≤ 2059 → workingAfter m k ≤ 400 → dayFor m (after m k) ≡ number (workingAfter m k)
+  -- every date of those years from the month's last day on is such a day
+  pub reaches : (d : Date) → IsMonth m → IsDate d → digitsOf (lastOf m) ≤ digitsOf d → (k : ℕ) × (after m k ≡ d)
+  -- a later date never has a smaller number
+  pub rises : (d e : Date) (a b : ℕ) → digitsOf d ≤ digitsOf e → dayFor m d ≡ number a → dayFor m e ≡ number b → a ≤ b
+  -- number, date, number: the same
+  pub back : (n : ℕ) (d : Date) → FirstWith m n (Dated d) → dayFor m d ≡ number n
+  -- there is one answer
+  pub only : (n : ℕ) (a b : DateAnswer) → FirstWith m n a → FirstWith m n b → a ≡ b
+  -- "for 0 the month's last day"
+  pub zero-last : IsMonth m → FirstWith m 0 (Dated (lastOf m))
+  -- any numbers get an answer of the table: 36, or a number up to 400; 36, or a date of those years
+  pub day-range : (d : Date) → Between 0 400 (dayNumber (dayFor m d)) × ((dayRefusal (dayFor m d) ≡ 0) ⊎ (dayRefusal (dayFor m d) ≡ 36))
+  pub date-range : (n r s : ℕ) → OfFirst dateDigits m n r → OfFirst dateRefusal m n s → (Between 20200101 20591231 r × (s ≡ 0)) ⊎ ((r ≡ 0) × (s ≡ 36))
+  -- "36 for a settled month or a date that does not exist or lies outside those years, for a date before the settled month's last day, and for a number, .. worked out, above 400"
+  pub no-day : (d : Date) → (IsMonth m → IsDate d → digitsOf (lastOf m) ≤ digitsOf d → 400 < numberOf m d) → dayFor m d ≡ NoDay
+  pub only-no-day : (d : Date) → dayFor m d ≡ NoDay → IsMonth m → IsDate d → digitsOf (lastOf m) ≤ digitsOf d → 400 < numberOf m d
+  -- 36 for "a number, given .., above 400 or whose date would lie outside those years"
+  pub no-date : (n : ℕ) → (IsMonth m → n ≤ 400 → numberOf m lastDate < n) → FirstWith m n NoDate
+  pub only-no-date : (n : ℕ) → FirstWith m n NoDate → IsMonth m → n ≤ 400 → numberOf m lastDate < n

@@ -1,0 +1,7 @@
+pub mod Answer
+pub mod Cases
+pub mod Count
+pub mod Date
+pub mod Laws
+pub mod Rule
+pub mod Walk
