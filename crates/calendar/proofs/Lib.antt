@@ -4,6 +4,7 @@ pub mod Counts
 pub mod Days
 pub mod Entries
 pub mod Lengths
+pub mod Listed
 pub mod Reckoning
 pub mod Theorems
 pub mod Walking

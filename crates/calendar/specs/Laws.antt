@@ -1,7 +1,7 @@
 -- The calendar in other words: what judges the definitions, and what the answers mean to those who read them.
 use Prim.Native.Nat.{ℕ, zero, suc, _+_, _/_, _%_, _≤_, _<_}
 use mathlib.Core.Path.{_≡_}
-use mathlib.Core.Bool.{cond}
+use mathlib.Core.Bool.{false, cond}
 use mathlib.Core.List.{List, [], _∷_}
 use mathlib.Core.Logic.{_⊎_}
 use lib.Dec.{ltb}
@@ -71,6 +71,31 @@ pub record Reckoned : Type 0 where
   pub lengths : (y : ℕ) → lengthsOf y ≡ 31 ∷ (28 + leapDay y) ∷ 31 ∷ 30 ∷ 31 ∷ 30 ∷ 31 ∷ 31 ∷ 30 ∷ 31 ∷ 30 ∷ 31 ∷ []
   -- "Easter by the Gregorian rule"
   pub easters : EachYear 2020 easterDates (λ (y n : ℕ). easterDay y ≡ dayOfYear (dateNamed y (n / 100) (n % 100)))
+
+-- none of a list's days, each month and day, is a working day of the year
+abbrev pub NoneWorks : (year : ℕ) → List ℕ → Type 0
+NoneWorks y [] = Unit {0}
+NoneWorks y (n ∷ l) = (working (dateNamed y (n / 100) (n % 100)) ≡ false) × NoneWorks y l
+
+-- the paper's list, line by line: what is not a working day, in whatever year, and by places in it
+pub record DaysOff : Type 0 where
+  -- "Saturdays, Sundays"
+  pub saturdays : (d : Date) → weekdayOf d ≡ 6 → working d ≡ false
+  pub sundays : (d : Date) → weekdayOf d ≡ 7 → working d ≡ false
+  -- "24 and 31 December"
+  pub december : (y : ℕ) → NoneWorks y (1224 ∷ 1231 ∷ [])
+  -- "1 and 6 January, 8 March, .. 1 May, .. 15 August, 20 September, 3 and 31 October, 1 November, .. 25 and 26 December"
+  pub fixed : (y : ℕ) → NoneWorks y (101 ∷ 106 ∷ 308 ∷ 501 ∷ 815 ∷ 920 ∷ 1003 ∷ 1031 ∷ 1101 ∷ 1225 ∷ 1226 ∷ [])
+  -- "Good Friday, Easter Monday, .. Easter + 39, + 50 and + 60 days"
+  pub good-friday : (d : Date) → dayOfYear d + 2 ≡ easterDay (d .year) → working d ≡ false
+  pub easter-monday : (d : Date) → dayOfYear d ≡ easterDay (d .year) + 1 → working d ≡ false
+  pub ascension : (d : Date) → dayOfYear d ≡ easterDay (d .year) + 39 → working d ≡ false
+  pub whit-monday : (d : Date) → dayOfYear d ≡ easterDay (d .year) + 50 → working d ≡ false
+  pub corpus-christi : (d : Date) → dayOfYear d ≡ easterDay (d .year) + 60 → working d ≡ false
+  -- "the last Wednesday before 23 November": a Wednesday before it, with no other in between
+  pub wednesday : (d : Date) → weekdayOf d ≡ 3 → d .month ≡ 11 → d .day < 23 → 23 ≤ d .day + 7 → working d ≡ false
+  -- "in 2020 and 2025 also 8 May"
+  pub eighth-of-may : NoneWorks 2020 (508 ∷ []) × NoneWorks 2025 (508 ∷ [])
 
 -- what a date's number and a number's date are, for any settled month
 pub record Answers (m : Month) : Type 0 where
