@@ -7,16 +7,16 @@ use native.Mathlib.Nat.{eq-or-lt-of-le}
 use native.Mathlib.Omega.{arith}
 use borrow.Author.Tests.{leb-true, leb-false}
 use lib.Dec.{leb}
-use Rattle.calendar.specs.declared.Month.{Month}
-use Rattle.calendar.specs.declared.Date.{Date}
+use Rattle.workdays.specs.declared.Month.{Month}
+use Rattle.workdays.specs.declared.Date.{Date}
 use Rattle.calendar.specs.declared.DateAnswer.{DateAnswer}
 use Rattle.calendar.specs.declared.DateAnswer.the-variants.{Dated, NoDate}
-use Rattle.calendar.specs.Date.{months, IsMonth, IsDate, lastOf, lengthOf, dayIn, monthOf, monthAt, indexOf, digitsOf}
-use Rattle.calendar.specs.Count.{worked, before, upTo}
+use Rattle.workdays.specs.Date.{months, IsMonth, IsDate, lastOf, lengthOf, dayIn, monthOf, monthAt, indexOf, digitsOf}
+use Rattle.workdays.specs.Count.{worked, before, upTo}
 use Rattle.calendar.specs.Answer.{FirstWith}
 use Rattle.calendar.specs.Walk.{MonthWith, DayWith}
-use Rattle.calendar.proofs.Lengths.{month-length}
-use Rattle.calendar.proofs.Counts.{month-more, end-of, month-end, same-place, place-rises, before-rises, worked-rises}
+use Rattle.workdays.proofs.Lengths.{month-length}
+use Rattle.workdays.proofs.Counts.{month-more, end-of, month-end, same-place, place-rises, before-rises, worked-rises}
 use Rattle.calendar.proofs.Days.{Counted, day-known, day-given, last-zero}
 
 pub no-month : (m : Month) (n : ℕ) → (IsMonth m → ⊥) → FirstWith m n NoDate

@@ -4,18 +4,18 @@ use Prim.Native.Nat.{ℕ, _+_}
 use mathlib.Core.Bool.{true}
 use borrow.Author.Tests.{eqb-true, leb-true}
 use lib.Dec.{eqb, leb}
-use Rattle.calendar.specs.declared.Month.{Month}
-use Rattle.calendar.specs.declared.Date.{Date}
+use Rattle.workdays.specs.declared.Month.{Month}
+use Rattle.workdays.specs.declared.Date.{Date}
 use native.Mathlib.Omega.{arith}
-use Rattle.calendar.specs.Date.{leap, daysIn, daysOf, weekday, monthNamed, dateNamed, monthOf, indexOf, monthOk, dateOk}
-use Rattle.calendar.specs.Rule.{fullMoon, easterDay, off}
-use Rattle.calendar.specs.Count.{worked, before}
+use Rattle.workdays.specs.Date.{leap, daysIn, daysOf, weekday, monthNamed, dateNamed, monthOf, indexOf, monthOk, dateOk}
+use Rattle.workdays.specs.Rule.{fullMoon, easterDay, off}
+use Rattle.workdays.specs.Count.{worked, before}
 use Rattle.calendar.specs.declared.DateAnswer.the-variants.{NoDate}
 use Rattle.calendar.specs.Answer.{number, dayFor, FirstWith}
 use Rattle.calendar.specs.Laws.{lastDate}
 use Rattle.calendar.specs.Cases.{Cases}
 use Rattle.calendar.proofs.Days.{day-known, last-zero, month-behind}
-use Rattle.calendar.proofs.Lengths.{means-month, means-date}
+use Rattle.workdays.proofs.Lengths.{means-month, means-date}
 use Rattle.calendar.proofs.Theorems.{answers}
 
 -- The answers computed by the rule, without the table.
@@ -45,19 +45,6 @@ cases =
       too-early = refl;
       no-february = refl;
       no-month = refl;
-      sixteenth = refl;
-      twenty-third = refl;
-      twenty-second = refl;
-      may-2020 = refl;
-      may-2025 = refl;
-      may-2023 = refl;
-      august = refl;
-      friday-2049 = refl;
-      monday-2049 = refl;
-      ascension-2049 = refl;
-      pentecost-2049 = refl;
-      corpus-2049 = refl;
-      week-later-2049 = refl;
       end = end-day;
       none-left = none;
     }

@@ -6,15 +6,15 @@ use native.Mathlib.Omega.{arith}
 use Rattle.quantity.proofs.Meanings.{means-and, means-le, means-so}
 use Rattle.quantity.specs.Limits.{dayOk}
 use Rattle.quantity.specs.Meaning.{Means}
-use Rattle.calendar.specs.declared.Month.{Month}
-use Rattle.calendar.specs.declared.Date.{Date}
+use Rattle.workdays.specs.declared.Month.{Month}
+use Rattle.workdays.specs.declared.Date.{Date}
 use Rattle.calendar.specs.declared.DayAnswer.{DayAnswer}
 use Rattle.calendar.specs.declared.DayAnswer.the-variants.{Numbered, NoDay}
-use Rattle.calendar.specs.Date.{monthOk, dateOk, IsMonth, IsDate, lastOf, lengthOf, digitsOf, indexOf, monthOf}
-use Rattle.calendar.specs.Count.{upTo, numberOf, worked, before}
+use Rattle.workdays.specs.Date.{monthOk, dateOk, IsMonth, IsDate, lastOf, lengthOf, digitsOf, indexOf, monthOf}
+use Rattle.workdays.specs.Count.{upTo, numberOf, worked, before}
 use Rattle.calendar.specs.Answer.{counts, number, dayFor}
-use Rattle.calendar.proofs.Lengths.{means-month, means-date, month-length}
-use Rattle.calendar.proofs.Counts.{later, end-of, same-place, place-rises, day-rises, before-rises}
+use Rattle.workdays.proofs.Lengths.{means-month, means-date, month-length}
+use Rattle.workdays.proofs.Counts.{later, end-of, same-place, place-rises, day-rises, before-rises}
 
 -- the number n of a date: month and date exist, the date is not before the month's last day, and n more working days are counted up to it than up to that day
 pub record Counted (m : Month) (d : Date) (n : ℕ) : Type 0 where

@@ -1,10 +1,6 @@
 pub mod Back
 pub mod Cases
-pub mod Counts
 pub mod Days
 pub mod Entries
-pub mod Lengths
-pub mod Listed
-pub mod Reckoning
 pub mod Theorems
 pub mod Walking

@@ -7,18 +7,18 @@ use native.Mathlib.Omega.{arith}
 use borrow.Author.Tests.{leb-true, leb-false}
 use lib.Dec.{leb}
 use Rattle.quantity.specs.Meaning.{Between}
-use Rattle.calendar.specs.declared.Month.{Month}
-use Rattle.calendar.specs.declared.Date.{Date}
+use Rattle.workdays.specs.declared.Month.{Month}
+use Rattle.workdays.specs.declared.Date.{Date}
 use Rattle.calendar.specs.declared.DayAnswer.{DayAnswer}
 use Rattle.calendar.specs.declared.DayAnswer.the-variants.{Numbered, NoDay}
 use Rattle.calendar.specs.declared.DateAnswer.{DateAnswer}
 use Rattle.calendar.specs.declared.DateAnswer.the-variants.{Dated, NoDate}
-use Rattle.calendar.specs.Date.{daysIn, IsMonth, IsDate, lastOf, digitsOf}
-use Rattle.calendar.specs.Count.{upTo, numberOf}
+use Rattle.workdays.specs.Date.{daysIn, IsMonth, IsDate, lastOf, digitsOf}
+use Rattle.workdays.specs.Count.{upTo, numberOf}
 use Rattle.calendar.specs.Answer.{number, dayFor, FirstWith, dayRefusal, dayNumber, dateRefusal, dateDigits, OfFirst}
 use Rattle.calendar.specs.Laws.{Answers, after, workingAfter, lastDate}
-use Rattle.calendar.proofs.Lengths.{month-length}
-use Rattle.calendar.proofs.Counts.{later}
+use Rattle.workdays.proofs.Lengths.{month-length}
+use Rattle.workdays.proofs.Counts.{later}
 use Rattle.calendar.proofs.Days.{Counted, day-known, day-given, day-refused, last-date, same-date}
 use Rattle.calendar.proofs.Back.{zero-last}
 use Rattle.calendar.proofs.Walking.{Walked, walked, between, reaches}

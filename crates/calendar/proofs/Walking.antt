@@ -8,14 +8,15 @@ use native.Mathlib.Omega.{arith}
 use borrow.Author.Tests.{ltb-true, ltb-false, lt-ltb, le-ltb}
 use lib.Dec.{ltb}
 use Rattle.quantity.proofs.Tests.{by-test}
-use Rattle.calendar.specs.declared.Month.{Month}
-use Rattle.calendar.specs.declared.Date.{Date}
-use Rattle.calendar.specs.Date.{months, IsMonth, IsDate, monthNamed, dateNamed, monthOf, monthAt, dayIn, lastOf, lengthOf, indexOf, digitsOf}
-use Rattle.calendar.specs.Rule.{working}
-use Rattle.calendar.specs.Count.{one, worked, before, upTo}
-use Rattle.calendar.specs.Laws.{nextDay, firstAfter, after, workingAfter}
-use Rattle.calendar.proofs.Lengths.{month-length}
-use Rattle.calendar.proofs.Counts.{one-more, end-of, month-at, same-place, place-rises, day-rises}
+use Rattle.workdays.specs.declared.Month.{Month}
+use Rattle.workdays.specs.declared.Date.{Date}
+use Rattle.workdays.specs.Date.{months, IsMonth, IsDate, monthNamed, dateNamed, monthOf, monthAt, dayIn, lastOf, lengthOf, indexOf, digitsOf}
+use Rattle.workdays.specs.Rule.{working}
+use Rattle.workdays.specs.Count.{one, worked, before, upTo}
+use Rattle.workdays.specs.Laws.{nextDay, firstAfter}
+use Rattle.calendar.specs.Laws.{after, workingAfter}
+use Rattle.workdays.proofs.Lengths.{month-length}
+use Rattle.workdays.proofs.Counts.{one-more, end-of, month-at, same-place, place-rises, day-rises}
 use Rattle.calendar.proofs.Days.{last-date, same-date}
 
 -- what holds of a day that follows another

@@ -4,14 +4,14 @@ use mathlib.Core.Path.{_≡_}
 use mathlib.Core.Bool.{Bool, cond, _&&_}
 use lib.Dec.{leb}
 use Rattle.quantity.specs.Limits.{dayOk}
-use Rattle.calendar.specs.declared.Month.{Month}
-use Rattle.calendar.specs.declared.Date.{Date}
+use Rattle.workdays.specs.declared.Month.{Month}
+use Rattle.workdays.specs.declared.Date.{Date}
 use Rattle.calendar.specs.declared.DayAnswer.{DayAnswer}
 use Rattle.calendar.specs.declared.DayAnswer.the-variants.{Numbered, NoDay}
 use Rattle.calendar.specs.declared.DateAnswer.{DateAnswer}
 use Rattle.calendar.specs.declared.DateAnswer.the-variants.{Dated, NoDate}
-use Rattle.calendar.specs.Date.{monthOk, dateOk, lastOf, digitsOf, dayOfYear, weekday}
-use Rattle.calendar.specs.Count.{numberOf}
+use Rattle.workdays.specs.Date.{monthOk, dateOk, lastOf, digitsOf, dayOfYear, weekday}
+use Rattle.workdays.specs.Count.{numberOf}
 
 -- "Answers: 36"
 abbrev pub noDate : ℕ

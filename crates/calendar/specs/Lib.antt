@@ -1,7 +1,4 @@
 pub mod Answer
 pub mod Cases
-pub mod Count
-pub mod Date
 pub mod Laws
-pub mod Rule
 pub mod Walk

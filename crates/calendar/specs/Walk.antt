@@ -2,11 +2,11 @@
 use Prim.Native.Nat.{ℕ, _+_, _-_, _≤_, _<_}
 use mathlib.Core.Path.{_≡_}
 use Rattle.quantity.specs.Meaning.{Between}
-use Rattle.calendar.specs.declared.Month.{Month}
+use Rattle.workdays.specs.declared.Month.{Month}
 use Rattle.calendar.specs.declared.DateAnswer.{DateAnswer}
 use Rattle.calendar.specs.declared.DateAnswer.the-variants.{Dated, NoDate}
-use Rattle.calendar.specs.Date.{months, lengthOf, monthOf}
-use Rattle.calendar.specs.Count.{worked, before}
+use Rattle.workdays.specs.Date.{months, lengthOf, monthOf}
+use Rattle.workdays.specs.Count.{worked, before}
 
 -- the last month from a place on with fewer working days before it than a count
 pub record MonthWith (start count found : ℕ) : Type 0 where

@@ -1,19 +1,21 @@
 // A date's day number for a settled month, by the table and the days of the date's own month; and the way back, by the table and the days of one month.
-use crate::Date;
 use crate::DateAnswer;
 use crate::DayAnswer;
-use crate::Month;
-use crate::count;
-use crate::dates;
 use crate::table;
 use quantity::Day;
 use quantity::limits::LAST_DAY;
+use workdays::Date;
+use workdays::Month;
+use workdays::count;
+use workdays::dates;
+use workdays::easter;
+use workdays::rule;
 ghost use mathlib.Core.Path.{_≡_};
 ghost use Prim.Native.Nat.{_<_};
-ghost use Rattle.calendar.specs.Date.{months, IsMonth, IsDate};
-ghost use Rattle.calendar.specs.Count.{before};
+ghost use Rattle.workdays.specs.Date.{months, IsMonth, IsDate};
+ghost use Rattle.workdays.specs.Count.{before};
 ghost use Rattle.calendar.specs.Answer.{dayFor, FirstWith};
-ghost use Rattle.calendar.specs.Walk.{MonthWith};
+ghost use Rattle.calendar.specs.Walk.{MonthWith, DayWith};
 
 // The number of a date that exists.
 fn number_of(settled: Month, date: Date) -> DayAnswer
@@ -63,6 +65,32 @@ fn month_with(start: usize, count: u64) -> usize
     i
 }
 
+// The day of a month up to which it has so many working days.
+fn day_with(m: Month, working: u64) -> DateAnswer
+    requires { ⌜ IsMonth m × (0 < working) ⌝ }
+    ensures { λ r. ⌜ DayWith m working r ⌝ }
+{
+    let start = dates::days_of(m.year, m.month - 1);
+    let easter = easter::easter_of(m.year);
+    let days = dates::days_in(m.year, m.month);
+    let mut count = 0;
+    let mut day = 0;
+    while day < days {
+        day += 1;
+        if !rule::is_off(m.year, easter, m.month * 100 + day, start + day) {
+            count += 1;
+            if count == working {
+                return DateAnswer::Dated(Date {
+                    year: m.year,
+                    month: m.month,
+                    day,
+                });
+            }
+        }
+    }
+    DateAnswer::NoDate
+}
+
 pub fn date_for(settled: Month, number: u64) -> DateAnswer
     ensures { λ r. ⌜ FirstWith settled number r ⌝ }
 {
@@ -85,5 +113,5 @@ pub fn date_for(settled: Month, number: u64) -> DateAnswer
     }
     let count = table::entry(next) + number;
     let found = month_with(next, count);
-    count::day_with(dates::month_at(found), count - table::entry(found))
+    day_with(dates::month_at(found), count - table::entry(found))
 }

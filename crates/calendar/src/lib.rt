@@ -1,26 +1,10 @@
-// Working days from the calendar, for the years 2020 to 2059: a date's day number for a settled month, and the way back.
+// Days and dates of a settled month, for the years 2020 to 2059: a date's day number, by the table of working days, and the way back.
 use quantity::Day;
+use workdays::Date;
 
 pub mod answers;
-pub mod count;
-pub mod dates;
-pub mod easter;
-pub mod generator;
 pub mod numbers;
-pub mod rule;
 pub mod table;
-
-// A month of a year, 1 to 12.
-pub struct Month {
-    pub year: u64,
-    pub month: u64,
-}
-
-pub struct Date {
-    pub year: u64,
-    pub month: u64,
-    pub day: u64,
-}
 
 // A date's day number for a settled month, or 36.
 pub enum DayAnswer {

@@ -1,13 +1,13 @@
 // The answers as numbers, for a host: one gives the refusal, another the number or the date, 0 where it is refused. The settled month comes by year and month, a date by y, m and d.
-use crate::Date;
 use crate::DateAnswer;
 use crate::DayAnswer;
-use crate::Month;
 use crate::NO_DATE;
 use crate::answers;
-use crate::dates;
+use workdays::Date;
+use workdays::Month;
+use workdays::dates;
 ghost use mathlib.Core.Path.{_≡_};
-ghost use Rattle.calendar.specs.Date.{monthNamed, dateNamed};
+ghost use Rattle.workdays.specs.Date.{monthNamed, dateNamed};
 ghost use Rattle.calendar.specs.Answer.{dayFor, dayRefusal, dayNumber, dateRefusal, dateDigits, OfFirst, weekdayFor};
 
 pub fn day_refusal(year: u64, month: u64, y: u64, m: u64, d: u64) -> u64

@@ -1,8 +1,8 @@
 // "for each month the number of working days before its first day, counted from 1 January 2020": what the program calendar_table prints.
 ghost use mathlib.Core.Path.{_≡_};
 ghost use Prim.Native.Nat.{_*_, _≤_, _<_};
-ghost use Rattle.calendar.specs.Date.{months};
-ghost use Rattle.calendar.specs.Count.{before};
+ghost use Rattle.workdays.specs.Date.{months};
+ghost use Rattle.workdays.specs.Count.{before};
 
 const TABLE: [u64; 480] = [
     0,

@@ -2,8 +2,8 @@
 use Prim.Native.Nat.{ℕ, _-_}
 use mathlib.Core.List.{List, [], _∷_, _++_}
 use Rattle.text.specs.Text.{newline, decimal, eachTo}
-use Rattle.calendar.specs.Count.{before}
-use Rattle.calendar.specs.Date.{months}
+use Rattle.workdays.specs.Count.{before}
+use Rattle.workdays.specs.Date.{months}
 
 -- a number on a line of its own
 abbrev pub lineOf : ℕ → List ℕ

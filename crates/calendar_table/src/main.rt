@@ -1,8 +1,8 @@
 // Prints the calendar's table, an entry a line, worked out by the rule: what crates/calendar/src/table.rt holds.
-use calendar::dates::MONTHS;
 use libc::STDERR_FILENO;
 use libc::STDOUT_FILENO;
 use text::field;
+use workdays::dates::MONTHS;
 ghost use Prim.Native.Nat.{_+_, _≤_};
 ghost use lib.ListN.{length};
 ghost use Rattle.text.specs.Text.{Put};
@@ -23,7 +23,7 @@ fn put_table(out: &mut [u8]) -> usize
     requires { ⌜ 10080 ≤ length (now out) ⌝ }
     ensures { λ r. ⌜ Put 10080 0 tableText (now (out .entry)) (now (out .exit)) r ⌝ }
 {
-    let entries = calendar::generator::generate();
+    let entries = workdays::generator::generate();
     let mut at = 0;
     let mut i = 0;
     while i < MONTHS {

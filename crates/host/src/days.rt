@@ -1,7 +1,7 @@
 // Days and dates of a settled month, by the calendar.
 use calendar::numbers;
 ghost use mathlib.Core.Path.{_≡_};
-ghost use Rattle.calendar.specs.Date.{monthNamed, dateNamed};
+ghost use Rattle.workdays.specs.Date.{monthNamed, dateNamed};
 ghost use Rattle.calendar.specs.Answer.{dayFor, dayRefusal, dayNumber, dateRefusal, dateDigits, OfFirst, weekdayFor};
 
 // 0, or 36 where the date y-m-d has no number.

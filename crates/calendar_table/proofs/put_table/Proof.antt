@@ -6,8 +6,8 @@ use borrow.Author.Needs.{needs}
 use lib.ListN.{length}
 use Rattle.text.specs.Text.{Put, eachTo}
 use Rattle.text.proofs.Texts.{put-as, put-each, put-first}
-use Rattle.calendar.specs.Count.{before}
-use Rattle.calendar.specs.Date.{months}
+use Rattle.workdays.specs.Count.{before}
+use Rattle.workdays.specs.Date.{months}
 use Rattle.calendar_table.specs.Table.{lineOf}
 use Rattle.calendar_table.proofs.put_table.Statement.{statement}
 use Rattle.calendar_table.proofs.put_table.Tie as tie

@@ -1,7 +1,7 @@
 -- `date_for` meets its contract. Assumes nothing.
 use borrow.Author.Tests.{not-true, not-false}
 use mathlib.Core.Path.{sym, _∙_}
-use Rattle.calendar.proofs.Lengths.{means-month}
+use Rattle.workdays.proofs.Lengths.{means-month}
 use Rattle.calendar.proofs.Back.{no-month, no-number, zero-day, last-month, way-back}
 use native.Mathlib.Omega.{arith}
 use borrow.Author.Needs.{needs}

@@ -2,7 +2,7 @@
 use mathlib.Core.Path.{sym, _∙_}
 use Rattle.calendar.proofs.Days.{no-such}
 use Rattle.quantity.proofs.Tests.{and-left, and-right}
-use Rattle.calendar.proofs.Lengths.{means-month, means-date}
+use Rattle.workdays.proofs.Lengths.{means-month, means-date}
 use borrow.Author.Needs.{needs}
 use Rattle.calendar.proofs.answers.day_for.Statement.{statement}
 use Rattle.calendar.proofs.answers.day_for.Tie as tie

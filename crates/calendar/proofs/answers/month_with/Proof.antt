@@ -1,8 +1,8 @@
 -- `month_with` meets its contract. The loop: the month at the place has fewer working days before it than the count. Assumes nothing.
 use Prim.Native.Nat.{_-_, _≤_, _<_}
 use native.Mathlib.Omega.{arith}
-use Rattle.calendar.specs.Count.{before}
-use Rattle.calendar.specs.Date.{months}
+use Rattle.workdays.specs.Count.{before}
+use Rattle.workdays.specs.Date.{months}
 use Rattle.calendar.proofs.answers.month_with.Statement.{statement}
 use Rattle.calendar.proofs.answers.month_with.Tie as tie
 

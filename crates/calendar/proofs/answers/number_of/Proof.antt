@@ -1,10 +1,10 @@
 -- `number_of` meets its contract. Assumes nothing.
-use Rattle.calendar.specs.Count.{worked}
+use Rattle.workdays.specs.Count.{worked}
 use Prim.Native.Nat.{_≤_}
-use Rattle.calendar.specs.declared.Month.{Month}
+use Rattle.workdays.specs.declared.Month.{Month}
 use mathlib.Core.Path.{sym, ap, subst⁻¹, _∙_}
 use native.Mathlib.Omega.{arith}
-use Rattle.calendar.specs.Date.{IsMonth, indexOf, lengthOf}
+use Rattle.workdays.specs.Date.{IsMonth, indexOf, lengthOf}
 use Rattle.calendar.proofs.Days.{month-before, last-day, earlier-day, least, number-given, number-refused}
 use borrow.Author.Needs.{needs}
 use Rattle.calendar.proofs.answers.number_of.Statement.{statement}

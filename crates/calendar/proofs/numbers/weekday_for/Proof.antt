@@ -2,8 +2,8 @@
 use mathlib.Core.Path.{sym, _∙_}
 use native.Mathlib.Omega.{arith}
 use borrow.Author.Tests.{not-true, not-false}
-use Rattle.calendar.specs.Date.{dateNamed}
-use Rattle.calendar.proofs.Lengths.{means-date, month-length}
+use Rattle.workdays.specs.Date.{dateNamed}
+use Rattle.workdays.proofs.Lengths.{means-date, month-length}
 use borrow.Author.Needs.{needs}
 use Rattle.calendar.proofs.numbers.weekday_for.Statement.{statement}
 use Rattle.calendar.proofs.numbers.weekday_for.Tie as tie

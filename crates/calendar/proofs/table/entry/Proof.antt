@@ -1,11 +1,11 @@
 -- `entry` meets its contract: the table passes the running count. Assumes nothing.
 use mathlib.Core.Path.{subst⁻¹, _≡_}
 use Prim.Native.Nat.{ℕ, _*_, _≤_}
-use Rattle.calendar.proofs.Counts.{before-most}
+use Rattle.workdays.proofs.Counts.{before-most}
 use borrow.Author.Needs.{needs}
-use Rattle.calendar.specs.Date.{leap, daysIn, daysOf, weekday}
-use Rattle.calendar.specs.Rule.{fullMoon, easterDay, off}
-use Rattle.calendar.specs.Count.{worked, before}
+use Rattle.workdays.specs.Date.{leap, daysIn, daysOf, weekday}
+use Rattle.workdays.specs.Rule.{fullMoon, easterDay, off}
+use Rattle.workdays.specs.Count.{worked, before}
 use Rattle.calendar.proofs.Entries.{entriesFrom, every-entry}
 use Rattle.calendar.proofs.table.entry.Statement.{statement}
 use Rattle.calendar.proofs.table.entry.Tie as tie

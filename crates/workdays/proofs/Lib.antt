@@ -1,0 +1,6 @@
+pub mod Cases
+pub mod Counts
+pub mod Entries
+pub mod Lengths
+pub mod Listed
+pub mod Reckoning

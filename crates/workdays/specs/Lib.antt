@@ -1,0 +1,5 @@
+pub mod Cases
+pub mod Count
+pub mod Date
+pub mod Laws
+pub mod Rule
