@@ -3,4 +3,3 @@ pub mod GivenBack
 pub mod Months
 pub mod Places
 pub mod Reports
-pub mod Tables

@@ -19,8 +19,8 @@ use Rattle.replay.specs.Given.{Given, given, givenIn}
 use Rattle.replay.specs.Replay.{callsFor, toldOf, numbersOf, over, Replays}
 use Rattle.replay.specs.declared.Replayed.{Replayed}
 use Rattle.host.specs.Replay.{endingNumber, endingOffset, reportPlaces, fits, fitting, listed, Places, placesOf, Reported}
-use Rattle.host.specs.Table.{pointsPlaces, versionsPlaces, pointTable, versionTable, refusals, firstRefused}
-use Rattle.host.specs.declared.Refusals.{Refusals}
+use Rattle.report.specs.Table.{pointsPlaces, versionsPlaces, pointTable, versionTable, refusals, firstRefused}
+use Rattle.report.specs.declared.Refusals.{Refusals}
 
 -- places that are enough
 module _ (r p v : ℕ) {b : Bool} (e : b ≡ fits r p v) (t : b ≡ true) where

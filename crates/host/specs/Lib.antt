@@ -1,4 +1,3 @@
 pub mod Call
 pub mod Month
 pub mod Replay
-pub mod Table

@@ -15,7 +15,7 @@ use Rattle.model.specs.Plain.{openingOf, dayOf, pointsOf, versionsOf, logOf, se
 use Rattle.replay.specs.Replay.{callsFor, endingOf, toldOf, numbersOf, over, Gives}
 use Rattle.replay.specs.declared.Ending.{Ending}
 use Rattle.replay.specs.declared.Ending.the-variants.{End, Refused, Full}
-use Rattle.host.specs.Table.{pointsPlaces, versionsPlaces, pointTable, versionTable, refusals, firstRefused, flagNumber}
+use Rattle.report.specs.Table.{pointsPlaces, versionsPlaces, pointTable, versionTable, refusals, firstRefused, flagNumber}
 
 -- 0, or the number of the first refusal; 35 too where the answers are full ("output too short")
 abbrev pub endingNumber : Ending → ℕ

@@ -1,15 +1,15 @@
 // A whole message file through a fresh desk.
-use crate::Refusals;
 use crate::TOO_SHORT;
-use crate::table::POINT_PLACES;
-use crate::table::VERSION_PLACES;
-use crate::table::put_points;
-use crate::table::put_row;
-use crate::table::put_versions;
-use crate::table::refusals_of;
 use message::cause;
 use quantity::Day;
 use replay::Ending;
+use report::Refusals;
+use report::table::POINT_PLACES;
+use report::table::VERSION_PLACES;
+use report::table::put_points;
+use report::table::put_row;
+use report::table::put_versions;
+use report::table::refusals_of;
 use state::Runs;
 ghost use mathlib.Core.Path.{_≡_};
 ghost use Rattle.checks.specs.Stepped.{storesOf};
@@ -17,7 +17,7 @@ ghost use Prim.Native.Nat.{_≤_};
 ghost use lib.ListN.{length};
 ghost use Rattle.replay.specs.Replay.{over};
 ghost use Rattle.host.specs.Replay.{endingNumber, endingOffset, reportPlaces, fits, listed, placesOf, Reported};
-ghost use Rattle.host.specs.Table.{flagNumber};
+ghost use Rattle.report.specs.Table.{flagNumber};
 
 // How many numbers a report has.
 const REPORT_PLACES: usize = 10;

@@ -1,8 +1,8 @@
 -- `point_row` meets its contract. Assumes nothing.
 use mathlib.Core.Path.{_∙_}
 use borrow.Author.Needs.{needs}
-use Rattle.host.proofs.table.point_row.Statement.{statement}
-use Rattle.host.proofs.table.point_row.Tie as tie
+use Rattle.report.proofs.table.point_row.Statement.{statement}
+use Rattle.report.proofs.table.point_row.Tie as tie
 
 version-of-requires : tie.Need-version-of-requires
 version-of-requires c κs = search needs

@@ -1,7 +1,7 @@
 -- `point_places` meets its contract. Assumes nothing.
 use borrow.Author.Needs.{needs}
-use Rattle.host.proofs.table.point_places.Statement.{statement}
-use Rattle.host.proofs.table.point_places.Tie as tie
+use Rattle.report.proofs.table.point_places.Statement.{statement}
+use Rattle.report.proofs.table.point_places.Tie as tie
 
 enum-told : tie.Need-enum-told
 enum-told c = search needs
