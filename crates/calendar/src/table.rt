@@ -4,7 +4,7 @@ ghost use Prim.Native.Nat.{_*_, _≤_, _<_};
 ghost use Rattle.workdays.specs.Date.{months};
 ghost use Rattle.workdays.specs.Count.{before};
 
-const TABLE: [u64; 480] = [
+const TABLE: [u16; 480] = [
     0,
     21,
     41,
@@ -487,10 +487,16 @@ const TABLE: [u64; 480] = [
     9805,
 ];
 
+fn wide(n: u16) -> u64
+    ensures { λ r. ⌜ r ≡ n ⌝ }
+{
+    n as u64
+}
+
 // The entry of the month at a place.
 pub fn entry(i: usize) -> u64
     requires { ⌜ i < months ⌝ }
     ensures { λ r. ⌜ (r ≡ before i) × (r ≤ 31 * i) ⌝ }
 {
-    TABLE[i]
+    wide(TABLE[i])
 }
