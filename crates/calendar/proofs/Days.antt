@@ -8,11 +8,10 @@ use Rattle.quantity.specs.Limits.{dayOk}
 use Rattle.quantity.specs.Meaning.{Means}
 use Rattle.workdays.specs.declared.Month.{Month}
 use Rattle.workdays.specs.declared.Date.{Date}
-use Rattle.calendar.specs.declared.DayAnswer.{DayAnswer}
-use Rattle.calendar.specs.declared.DayAnswer.the-variants.{Numbered, NoDay}
+use Rattle.calendar.specs.declared.DayAnswer.the-variants.{NoDay}
 use Rattle.workdays.specs.Date.{monthOk, dateOk, IsMonth, IsDate, lastOf, lengthOf, digitsOf, indexOf, monthOf}
 use Rattle.workdays.specs.Count.{upTo, numberOf, worked, before}
-use Rattle.calendar.specs.Answer.{counts, number, dayFor}
+use Rattle.calendar.specs.Answer.{counts, number, dayNumber, dayFor}
 use Rattle.workdays.proofs.Lengths.{means-month, means-date, month-length}
 use Rattle.workdays.proofs.Counts.{later, end-of, same-place, place-rises, day-rises, before-rises}
 
@@ -44,18 +43,13 @@ means-number m d =
     })
     (λ r. ((r .settled, (r .exists, r .after)), r .small))
 
--- the number of an answer
-abbrev taken : DayAnswer → ℕ
-taken (Numbered n) = n .0
-taken NoDay = 0
-
 module _ (m : Month) (d : Date) where
   pub day-known : (n : ℕ) → dayFor m d ≡ number n → Counted m d n
   unfolding dayFor
   day-known n = of _ (means-number m d)
     where
       of : (t : Bool) → Means t (Counted m d (numberOf m d)) → cond t (number (numberOf m d)) NoDay ≡ number n → Counted m d n
-      of true k e = subst (Counted m d) (ap taken e) (k .holds refl)
+      of true k e = subst (Counted m d) (ap dayNumber e) (k .holds refl)
       of false k e = let z : _≡_ {A = ℕ} 0 1 = cc in absurd (omega arith)
 
   pub day-given : (n : ℕ) → Counted m d n → dayFor m d ≡ number n

@@ -21,31 +21,27 @@ one-more m n = subst⁻¹ (λ (k : ℕ). worked m k ≡ worked m n + one (workin
 pub worked-next : (m : Month) (n k s : ℕ) (b t : Bool) → k ≡ worked m n → s ≡ daysOf (m .year) (m .month - 1) → b ≡ off (m .year) (m .month * 100 + (n + 1)) (s + (n + 1)) → not b ≡ t → k + one t ≡ worked m (n + 1)
 worked-next m n k s b t p q r h = cc (one-more m n)
 
-pub worked-rises : (m : Month) (a b : ℕ) → a ≤ b → worked m a ≤ worked m b
-worked-rises m a b h =
+-- what never falls from one number to the next never falls
+rises : (f : ℕ → ℕ) → ((n : ℕ) → f n ≤ f (n + 1)) → (a b : ℕ) → a ≤ b → f a ≤ f b
+rises f step a b h =
     let e : a + (b - a) ≡ b = omega arith in
-    subst (λ (n : ℕ). worked m a ≤ worked m n) e (by (b - a))
+    subst (λ (n : ℕ). f a ≤ f n) e (by (b - a))
   where
-    by : (k : ℕ) → worked m a ≤ worked m (a + k)
-    by zero = subst⁻¹ (λ (n : ℕ). worked m a ≤ worked m n) (add-zero a) (omega arith)
+    by : (k : ℕ) → f a ≤ f (a + k)
+    by zero = subst⁻¹ (λ (n : ℕ). f a ≤ f n) (add-zero a) (omega arith)
     by (suc k) =
         let e : a + k + 1 ≡ a + suc k = omega arith in
-        subst (λ (n : ℕ). worked m a ≤ worked m n) e (omega (arith, one-more m (a + k), by k))
+        subst (λ (n : ℕ). f a ≤ f n) e (omega (arith, step (a + k), by k))
+
+pub worked-rises : (m : Month) (a b : ℕ) → a ≤ b → worked m a ≤ worked m b
+worked-rises m = rises (worked m) (λ n. omega (arith, one-more m n))
 
 pub month-more : (i : ℕ) → before (i + 1) ≡ before i + worked (monthAt i) (lengthOf (monthAt i))
 unfolding before
 month-more i = subst⁻¹ (λ (k : ℕ). before k ≡ before i + worked (monthAt i) (lengthOf (monthAt i))) (add-one i) refl
 
 pub before-rises : (i j : ℕ) → i ≤ j → before i ≤ before j
-before-rises i j h =
-    let e : i + (j - i) ≡ j = omega arith in
-    subst (λ (n : ℕ). before i ≤ before n) e (by (j - i))
-  where
-    by : (k : ℕ) → before i ≤ before (i + k)
-    by zero = subst⁻¹ (λ (n : ℕ). before i ≤ before n) (add-zero i) (omega arith)
-    by (suc k) =
-        let e : i + k + 1 ≡ i + suc k = omega arith in
-        subst (λ (n : ℕ). before i ≤ before n) e (omega (arith, month-more (i + k), by k))
+before-rises = rises before (λ i. omega (arith, month-more i))
 
 same-month : {a b c d : ℕ} → a ≡ c → b ≡ d → _≡_ {A = Month} (record { year = a; month = b }) (record { year = c; month = d })
 same-month p q = cc
