@@ -34,20 +34,22 @@ abbrev pub FirstWith : (settled : Month) (number : ℕ) → DateAnswer → Type 
 FirstWith m n (Dated d) = (dayFor m d ≡ number n) × ((e : Date) → dayFor m e ≡ number n → digitsOf d ≤ digitsOf e)
 FirstWith m n NoDate = (e : Date) → dayFor m e ≡ number n → ⊥
 
--- The answers as numbers, for a host: one entry gives the refusal, another the number or the date.
+-- the answers as numbers, for a host: one entry gives the refusal, 0 where there is none
 abbrev pub dayRefusal : DayAnswer → ℕ
 dayRefusal (Numbered n) = 0
 dayRefusal NoDay = noDate
 
+-- another the number, 0 where it is refused
 abbrev pub dayNumber : DayAnswer → ℕ
 dayNumber (Numbered n) = n .0
 dayNumber NoDay = 0
 
+-- the same of a date
 abbrev pub dateRefusal : DateAnswer → ℕ
 dateRefusal (Dated d) = 0
 dateRefusal NoDate = noDate
 
--- 20261112 for 12 November 2026
+-- the date, 20261112 for 12 November 2026, and 0 where it is refused
 abbrev pub dateDigits : DateAnswer → ℕ
 dateDigits (Dated d) = digitsOf d
 dateDigits NoDate = 0

@@ -5,6 +5,7 @@ use Rattle.calendar.specs.declared.DateAnswer.the-variants.{NoDate}
 use Rattle.workdays.specs.Date.{monthNamed, dateNamed}
 use Rattle.calendar.specs.Answer.{number, dayFor, FirstWith}
 
+-- dates with their numbers, or 36
 pub record Cases : Type 0 where
   -- "for a date before the settled month's last day": 31 October 2022 is 0, the day before it is 36
   pub last-day : dayFor (monthNamed 2022 10) (dateNamed 2022 10 31) ≡ number 0

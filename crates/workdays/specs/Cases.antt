@@ -4,6 +4,7 @@ use mathlib.Core.Bool.{true, false}
 use Rattle.workdays.specs.Date.{dateNamed}
 use Rattle.workdays.specs.Rule.{working}
 
+-- days that are off, and days that are not
 pub record Cases : Type 0 where
   -- "the last Wednesday before 23 November": in 2022 the 16th, in 2023 the 22nd
   pub sixteenth : working (dateNamed 2022 11 16) ≡ false

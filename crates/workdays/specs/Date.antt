@@ -11,6 +11,7 @@ use Rattle.workdays.specs.declared.Date.{Date}
 abbrev pub months : ℕ
 months = 480
 
+-- "the years 2020 to 2059"
 abbrev pub yearOk : (year : ℕ) → Bool
 yearOk y = within 2020 2059 y
 
@@ -34,15 +35,19 @@ monthOk m = yearOk (m .year) && within 1 12 (m .month)
 abbrev pub IsMonth : Month → Type 0
 IsMonth m = Between 2020 2059 (m .year) × Between 1 12 (m .month)
 
+-- a month of its numbers; there may be no such month
 abbrev pub monthNamed : (year month : ℕ) → Month
 monthNamed y m = record { year = y; month = m }
 
+-- a date of its numbers; there may be no such date
 abbrev pub dateNamed : (year month day : ℕ) → Date
 dateNamed y m d = record { year = y; month = m; day = d }
 
+-- a date's month
 abbrev pub monthOf : Date → Month
 monthOf d = record { year = d .year; month = d .month }
 
+-- a month's days
 abbrev pub lengthOf : Month → ℕ
 lengthOf m = daysIn (m .year) (m .month)
 
@@ -54,6 +59,7 @@ dateOk d = monthOk (monthOf d) && within 1 (lengthOf (monthOf d)) (d .day)
 abbrev pub IsDate : Date → Type 0
 IsDate d = IsMonth (monthOf d) × Between 1 (lengthOf (monthOf d)) (d .day)
 
+-- a day of a month
 abbrev pub dayIn : Month → ℕ → Date
 dayIn m n = record { year = m .year; month = m .month; day = n }
 

@@ -17,6 +17,7 @@ firstAfter m = cond (ltb (m .month) 12) (dateNamed (m .year) (m .month + 1) 1) (
 abbrev pub nextDay : Date → Date
 nextDay d = cond (ltb (d .day) (lengthOf (monthOf d))) (dateNamed (d .year) (d .month) (d .day + 1)) (firstAfter (monthOf d))
 
+-- a date's weekday
 abbrev pub weekdayOf : Date → ℕ
 weekdayOf d = weekday (d .year) (dayOfYear d)
 

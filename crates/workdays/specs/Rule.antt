@@ -57,10 +57,12 @@ wednesdayOff w n = eqb w 3 && within 1116 1122 n
 abbrev pub onceOff : (year monthDay : ℕ) → Bool
 onceOff y n = eqb n 508 && (eqb y 2020 || eqb y 2025)
 
+-- not a working day: one of the paper's list, by year, month and day, and the place in the year
 unfoldable pub off : (year monthDay place : ℕ) → Bool
 off y n p =
     weekend (weekday y p)
     || (fixedOff n || (easterOff (easterDay y) p || (wednesdayOff (weekday y p) n || onceOff y n)))
 
+-- a working day is every other date
 abbrev pub working : Date → Bool
 working d = not (off (d .year) (monthDay d) (dayOfYear d))
