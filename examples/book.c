@@ -19,40 +19,6 @@
 
 enum { WRITTEN = 0, REFUSED = 1, UNWRITTEN = 2 };
 
-/* The most that a desk can use of each store. */
-enum {
-    VALUES = EMORIZUGU_VALUES_LENGTH(EMORIZUGU_QUARTERS, EMORIZUGU_VERSIONS),
-    BOOK = EMORIZUGU_BOOK_LENGTH(EMORIZUGU_QUARTERS),
-    LOG = EMORIZUGU_LOG_LENGTH(EMORIZUGU_VERSIONS),
-};
-
-static int reserve(struct emorizugu_lent *r, const struct file *message) {
-    r->file = message->bytes;
-    r->length = message->length;
-    r->values_length = VALUES;
-    r->book_length = BOOK;
-    r->log_length = LOG;
-    r->series_length = EMORIZUGU_SERIES_LENGTH;
-    r->answers_length = EMORIZUGU_ANSWERS_LENGTH(message->length);
-    r->values = calloc(r->values_length, sizeof *r->values);
-    r->book = calloc(r->book_length, sizeof *r->book);
-    r->log = calloc(r->log_length, sizeof *r->log);
-    r->series = calloc(r->series_length, sizeof *r->series);
-    r->answers = calloc(r->answers_length, sizeof *r->answers);
-    if (r->values && r->book && r->log && r->series && r->answers)
-        return 1;
-    fprintf(stderr, "book: no memory\n");
-    return 0;
-}
-
-static void release(struct emorizugu_lent *r) {
-    free(r->values);
-    free(r->book);
-    free(r->log);
-    free(r->series);
-    free(r->answers);
-}
-
 /* The book's first figures as bytes, eight to a figure, lowest first. */
 static int put_book(const char *name, const uint64_t *book, size_t figures) {
     struct file file = {malloc(8 * figures), 8 * figures};
@@ -100,7 +66,7 @@ int main(int argc, char **argv) {
         fprintf(stderr, "usage: book MESSAGE-FILE BOOK-FILE\n");
         return UNWRITTEN;
     }
-    if (read_file("book", argv[1], &message) && reserve(&r, &message)) {
+    if (read_file("book", argv[1], &message) && lend("book", &r, &message)) {
         if (!run(argv[1], &r))
             status = REFUSED;
         else if (put_book(argv[2], r.book, EMORIZUGU_BOOK_LENGTH(r.report[EMORIZUGU_OPENED])))

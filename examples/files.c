@@ -48,3 +48,30 @@ int write_file(const char *program, const char *name, const struct file *file) {
         fprintf(stderr, "%s: %s: %s\n", program, name, strerror(error));
     return error == 0;
 }
+
+int lend(const char *program, struct emorizugu_lent *r, const struct file *message) {
+    r->file = message->bytes;
+    r->length = message->length;
+    r->values_length = EMORIZUGU_VALUES_LENGTH(EMORIZUGU_QUARTERS, EMORIZUGU_VERSIONS);
+    r->book_length = EMORIZUGU_BOOK_LENGTH(EMORIZUGU_QUARTERS);
+    r->log_length = EMORIZUGU_LOG_LENGTH(EMORIZUGU_VERSIONS);
+    r->series_length = EMORIZUGU_SERIES_LENGTH;
+    r->answers_length = EMORIZUGU_ANSWERS_LENGTH(message->length);
+    r->values = calloc(r->values_length, sizeof *r->values);
+    r->book = calloc(r->book_length, sizeof *r->book);
+    r->log = calloc(r->log_length, sizeof *r->log);
+    r->series = calloc(r->series_length, sizeof *r->series);
+    r->answers = calloc(r->answers_length, sizeof *r->answers);
+    if (r->values && r->book && r->log && r->series && r->answers)
+        return 1;
+    fprintf(stderr, "%s: no memory\n", program);
+    return 0;
+}
+
+void release(struct emorizugu_lent *r) {
+    free(r->values);
+    free(r->book);
+    free(r->log);
+    free(r->series);
+    free(r->answers);
+}

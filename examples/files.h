@@ -1,11 +1,13 @@
 /*
- * Whole files in memory, for the example programs.
+ * Whole files in memory, and what the replay of one is lent, for the example programs.
  */
 #ifndef FILES_H
 #define FILES_H
 
 #include <stddef.h>
 #include <stdint.h>
+
+#include "emorizugu.h"
 
 /* A file's bytes; `bytes` is never NULL once the file is read. */
 struct file {
@@ -18,5 +20,12 @@ int read_file(const char *program, const char *name, struct file *file);
 
 /* Writes a whole file; says what is wrong where it cannot. */
 int write_file(const char *program, const char *name, const struct file *file);
+
+/* Lends a message file and the most that a desk can use of each store; says so where there is no memory. The caller releases
+   what was lent, also then. */
+int lend(const char *program, struct emorizugu_lent *r, const struct file *message);
+
+/* Frees the stores that were lent. */
+void release(struct emorizugu_lent *r);
 
 #endif

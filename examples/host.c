@@ -1,5 +1,6 @@
 /*
- * A host program: it says whether a message file is whole, and prints a balance group's month from a book.
+ * A host program: it says whether a message file is whole, which version of each point it selects in each run and whether
+ * that version is settled, and prints a balance group's month from a book.
  *
  *     host MESSAGE-FILE BOOK-FILE QUARTERS RUN GROUP
  *
@@ -7,7 +8,7 @@
  *
  * Exit status: 0 where both could be read, 1 where the message file is refused (its verdict and the month are printed
  * all the same), 2 where there is nothing to print: wrong arguments, a file that cannot be read, a book of another
- * length, a number outside its range. A message on standard error says which.
+ * length, a number outside its range, no memory. A message on standard error says which.
  */
 #include <errno.h>
 #include <inttypes.h>
@@ -64,6 +65,39 @@ static int print_verdict(const char *name, const struct file *file) {
     }
     printf("%s: refused with %" PRIu64 " at offset %" PRIu64 ": %s\n", name, refusal, offset, cause(refusal));
     return REFUSED;
+}
+
+static const char *status_words(uint64_t status) {
+    static const char *const words[] = {"none", "check data", "settlement data", "settled", "correction settlement data",
+                                        "correction settled"};
+    return status < sizeof words / sizeof *words ? words[status] : "unknown status";
+}
+
+/* Prints the version that a run selects of a point, and its status; nothing where it selects none. */
+static void print_selected(uint64_t point, int run, uint64_t version, uint64_t status) {
+    if (version != 0)
+        printf("point %" PRIu64 ", run %d: version %" PRIu64 ", %s\n", point, run, version, status_words(status));
+}
+
+static void print_points(const uint64_t *points) {
+    uint64_t point;
+    for (point = 1; point <= EMORIZUGU_POINTS; point++) {
+        const uint64_t *places = points + (point - 1) * EMORIZUGU_POINT;
+        print_selected(point, 1, places[EMORIZUGU_SELECTED_1], places[EMORIZUGU_STATUS_1]);
+        print_selected(point, 2, places[EMORIZUGU_SELECTED_2], places[EMORIZUGU_STATUS_2]);
+    }
+}
+
+/* Runs a message file through a fresh desk and prints what both runs select of each point. 0 where there is no memory. */
+static int print_selections(const struct file *message) {
+    static struct emorizugu_lent r;
+    int lent = lend("host", &r, message);
+    if (lent) {
+        emorizugu_run(&r);
+        print_points(r.points);
+    }
+    release(&r);
+    return lent;
 }
 
 /* A word in two's complement as a signed number. */
@@ -125,6 +159,8 @@ int main(int argc, char **argv) {
         && read_number(argv[5], "GROUP", &group) && read_file("host", argv[1], &message)
         && read_file("host", argv[2], &book) && has_month(argv[2], &book, quarters, run, group)) {
         status = print_verdict(argv[1], &message);
+        if (status == READ && !print_selections(&message))
+            status = UNREADABLE;
         print_month(&book, quarters, run, group);
     }
     free(message.bytes);

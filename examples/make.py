@@ -2,7 +2,8 @@
 """Writes the files that the examples are run on, to the folder given or to its own.
 
 Message files: `example.msg` is the one that document 01 writes out, `month.msg` its sample month, packed from
-`month.calls`; the others are empty or damaged, and each is refused for one cause. Books, both of two quarter hours:
+`month.calls`; `corrected.msg` has corrections with run 1 settled, `settled.msg` the same with both runs settled; the others
+are empty or damaged, and each is refused for one cause. Books, both of two quarter hours:
 `month.book` has the figures of document 01's sample month, `edges.book` figures at both ends of the 64-bit range, and
 `short.book` lacks its last byte. `july.csv` has the series of `july.calls`.
 """
@@ -26,9 +27,24 @@ ACTIVATE = bytes.fromhex("02 01 01 01 00 00")
 SUBMIT = bytes.fromhex("04 01 07 02 01 D0 0F")
 EXAMPLE = OPEN + ACTIVATE + SUBMIT + SUBMIT
 
+# Run 1 settled. Point 1 has a version of run 1, point 2 one of each run, point 3 one of run 2, point 4 check data.
+CORRECTED = b"".join(
+    (
+        OPEN,
+        ACTIVATE,
+        bytes.fromhex("02 02 02 01 05 00  02 03 03 01 00 00  02 04 05 01 00 00"),
+        SUBMIT,
+        bytes.fromhex("04 02 01 02 01 14  04 02 02 0B 01 28  04 03 01 0B 01 0A  04 04 01 0B 01 0C"),
+        bytes.fromhex("05 02 02 01 1F  05 03 01 01 1F  07 01 20"),
+    )
+)
+
 MESSAGES = {
     "example.msg": EXAMPLE,
     "month.msg": packed("month.calls"),
+    "corrected.msg": CORRECTED,
+    # Run 2 settled.
+    "settled.msg": CORRECTED + bytes.fromhex("07 02 97 01"),
     "empty.msg": b"",
     # 31: the second submission lacks its last byte.
     "cut.msg": EXAMPLE[:-1],

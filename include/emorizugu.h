@@ -25,7 +25,7 @@ extern "C" {
 #endif
 
 /* The version of these entries. It rises with every change that a host notices; emorizugu_version() is the library's. */
-#define EMORIZUGU_VERSION 3
+#define EMORIZUGU_VERSION 4
 
 /* Answers: accepted, and the causes of a refusal in the order in which they are checked. docs/CAUSES.md has them in words. */
 #define EMORIZUGU_ACCEPTED         0
@@ -97,7 +97,11 @@ enum {
     EMORIZUGU_REPORT     /* how many places these are */
 };
 
-/* The places of a point, and of all points: point p begins at (p - 1) x EMORIZUGU_POINT. */
+/*
+ * The places of a point, and of all points: point p begins at (p - 1) x EMORIZUGU_POINT. For each run it has the version
+ * that the run selects and that version's status: 3 and 5 are settled. Run 2's is its own where the status is 4 or 5; else
+ * it is run 1's, version and status.
+ */
 enum {
     EMORIZUGU_ACTIVE,     /* 1 where it is active, else 0 */
     EMORIZUGU_SINCE,      /* the day of its activation; this and what follows up to the partner is 0 of a free point */
@@ -106,6 +110,8 @@ enum {
     EMORIZUGU_PARTNER,
     EMORIZUGU_SELECTED_1, /* the version that run 1 selects; 0 where there is none */
     EMORIZUGU_SELECTED_2, /* the version that run 2 selects */
+    EMORIZUGU_STATUS_1,   /* the status of the version that run 1 selects, as below; 0 where it selects none */
+    EMORIZUGU_STATUS_2,   /* the status of the version that run 2 selects */
     EMORIZUGU_POINT
 };
 #define EMORIZUGU_POINTS_LENGTH (EMORIZUGU_POINT * EMORIZUGU_POINTS)
@@ -167,13 +173,13 @@ uint64_t emorizugu_figure(const uint8_t *book, size_t length, uint64_t quarters,
  * complement, at the places that emorizugu_figure_refusal names; the log four numbers a row: day, point, run, new
  * version. What the desk did not use is as it was.
  * series: room for a submission's energies. answers: answers[i] is that of call i + 1: 0, or the number of the cause
- * that the desk refuses it for. report: EMORIZUGU_REPORT places; points: EMORIZUGU_POINTS_LENGTH; versions:
- * EMORIZUGU_VERSIONS_LENGTH.
+ * that the desk refuses it for. report: EMORIZUGU_REPORT places. points: EMORIZUGU_POINTS_LENGTH, a row a point, with what
+ * each run selects and its status. versions: EMORIZUGU_VERSIONS_LENGTH, a row a version.
  *
  * 0 where the whole file was run, else the number of the reader's refusal, 31 to 35, or 35 where the answers are full
- * and bytes are left (the report then has as many calls answered as there are answers). 2 where report, points or
- * versions have fewer places; nothing is done then. A file that was run may have calls that were refused: the report
- * says how many, and which was the first.
+ * and bytes are left (the report then has as many calls answered as there are answers). 2 where report (10), points
+ * (2,304) or versions (2,048) have fewer places; nothing is done then. A file that was run may have calls that were
+ * refused: the report says how many, and which was the first.
  */
 uint64_t emorizugu_replay(const uint8_t *file, size_t length, uint64_t *values, size_t values_length, uint64_t *book,
                           size_t book_length, uint64_t *log, size_t log_length, uint64_t *series, size_t series_length,

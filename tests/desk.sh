@@ -145,6 +145,17 @@ group               run 1, Wh               run 2, Wh          difference, Wh
     4                     200                     200                       0
     5                  95 000                  95 000                       0
     6                  16 700                  16 700                       0
+
+run 1 is not settled: 0 of 6 selected versions settled
+run 2 is not settled: 0 of 6 selected versions settled; 0 its own, 6 as run 1
+
+point  series                        settled  run 1              run 2     other versions
+    1  exchange area 1 with outside  no       1 settlement data  as run 1
+    2  exchange area 2 with area 1   no       1 settlement data  as run 1
+    3  group-sum area 1 group 5      no       1 settlement data  as run 1
+    4  area-sum area 1               no       1 settlement data  as run 1
+    5  operator-sum group 6          no       1 settlement data  as run 1
+    6  delta-transfer area 2         no       1 settlement data  as run 1
 END
     holds 'run: text and message file give the same' cmp <(./desk run examples/month.calls) <(./desk run examples/month.msg)
     holds 'run: a pipe and a named pipe' sh -c "rm -f '$work/pipe' && mkfifo '$work/pipe' && (cat examples/month.msg >'$work/pipe' &) &&
@@ -182,19 +193,19 @@ notice point=2 version=11 verdict=positive day=31
 settle run=1 day=31
 END
     )
-    expect 'points: one order, statuses, what counts' 0 ./desk points "$file" <<END
-point  kind            area  partner  since  since date         version  status                      run 1  run 2
-    1  exchange           1        0      0                           5  settlement data             no     no
-    1  exchange           1        0      0                           7  settled                     yes    yes
-    2  group-sum          1        5      0                          10  settled                     yes    no
-    2  group-sum          1        5      0                          11  correction settlement data  no     yes
+    expect 'points: one order, statuses, what counts, what is settled' 0 ./desk points "$file" <<END
+point  kind            area  partner  since  since date         version  status                      run 1  run 2  settled
+    1  exchange           1        0      0                           5  settlement data             no     no     no
+    1  exchange           1        0      0                           7  settled                     yes    yes    yes
+    2  group-sum          1        5      0                          10  settled                     yes    no     yes
+    2  group-sum          1        5      0                          11  correction settlement data  no     yes    no
 END
     expect 'points as csv' 0 ./desk points "$file" --csv <<END
-point,kind,area,partner,since,since_date,version,status,run_1,run_2
-1,exchange,1,0,0,,5,settlement data,no,no
-1,exchange,1,0,0,,7,settled,yes,yes
-2,group-sum,1,5,0,,10,settled,yes,no
-2,group-sum,1,5,0,,11,correction settlement data,no,yes
+point,kind,area,partner,since,since_date,version,status,run_1,run_2,settled
+1,exchange,1,0,0,,5,settlement data,no,no,no
+1,exchange,1,0,0,,7,settled,yes,yes,yes
+2,group-sum,1,5,0,,10,settled,yes,no,yes
+2,group-sum,1,5,0,,11,correction settlement data,no,yes,no
 END
     dated_lists "$file"
     expect 'run: changes of selections stand in the summary' 0 ./desk run "$file" <<END
@@ -207,6 +218,13 @@ END
 group               run 1, Wh               run 2, Wh          difference, Wh
     1                      29                      25                      -4
     5                       3                       7                       4
+
+run 1 is settled: 2 of 2 selected versions settled
+run 2 is not settled: 1 of 2 selected versions settled; 1 its own, 1 as run 1
+
+point  series                        settled  run 1       run 2                          other versions
+    1  exchange area 1 with outside  run 1    7 settled   as run 1                       5 settlement data
+    2  group-sum area 1 group 5      run 1    10 settled  11 correction settlement data
 END
     picks "$file"
     holds 'lists: the same rows in each form' python3 tests/forms.py ./desk "$file"
@@ -214,19 +232,134 @@ END
     holds 'page: changes of selections' grep -q '<li>day 31: point 2, run 2: version 11 in the place of 10, which run 1 selects</li>' <(./desk page "$file")
 }
 
+# What each run selects, with its status, before and after each settlement: `desk run`, `desk points`, the page.
+# Point 1 has long version numbers, point 2 a correction, point 3 a correction alone, point 4 no version, point 5 check data.
+settled() {
+    local file
+    file=$(text unsettled.calls <<END
+$OPEN
+activate point=1 kind=exchange area=1 partner=outside day=0
+activate point=2 kind=group-sum area=1 partner=5 day=0
+activate point=3 kind=operator-sum area=T partner=6 day=0
+activate point=4 kind=delta-transfer area=16 partner=none day=0
+activate point=5 kind=exchange area=16 partner=15 day=0
+submit point=1 version=20260804120000 day=2 energies=1,2
+submit point=1 version=20260804120001 day=2 energies=3,4
+submit point=2 version=1 day=2 energies=1,1
+submit point=1 version=20260818093000 day=12 energies=5,6
+submit point=2 version=2 day=12 energies=2,2
+submit point=3 version=7 day=12 energies=3,3
+submit point=5 version=9 day=12 energies=4,4
+notice point=2 version=2 verdict=positive day=31
+notice point=3 version=7 verdict=positive day=40
+END
+    )
+    expect 'settled: no run' 0 selected_of "$file" <<END
+run 1 is not settled: 0 of 2 selected versions settled; 3 points have none
+run 2 is not settled: 0 of 3 selected versions settled; 2 its own, 1 as run 1; 2 points have none
+
+point  series                         settled  run 1                           run 2                         other versions
+    1  exchange area 1 with outside   no       20260804120001 settlement data  as run 1                      check data (1), settlement data (1)
+    2  group-sum area 1 group 5       no       1 settlement data               2 correction settlement data
+    3  operator-sum group 6           no       none                            7 correction settlement data
+    4  delta-transfer area 16         -        none                            none
+    5  exchange area 16 with area 15  -        none                            none                          9 check data
+END
+    { cat "$file" && echo 'settle run=1 day=40'; } >"$work/first.calls"
+    expect 'settled: run 1' 0 selected_of "$work/first.calls" <<END
+run 1 is settled: 2 of 2 selected versions settled; 3 points have none
+run 2 is not settled: 1 of 3 selected versions settled; 2 its own, 1 as run 1; 2 points have none
+
+point  series                         settled  run 1                   run 2                         other versions
+    1  exchange area 1 with outside   run 1    20260804120001 settled  as run 1                      check data (1), settlement data (1)
+    2  group-sum area 1 group 5       run 1    1 settled               2 correction settlement data
+    3  operator-sum group 6           no       none                    7 correction settlement data
+    4  delta-transfer area 16         -        none                    none
+    5  exchange area 16 with area 15  -        none                    none                          9 check data
+END
+    { cat "$work/first.calls" && echo 'settle run=2 day=151'; } >"$work/settled.calls"
+    expect 'settled: both runs' 0 selected_of "$work/settled.calls" <<END
+run 1 is settled: 2 of 2 selected versions settled; 3 points have none
+run 2 is settled: 3 of 3 selected versions settled; 2 its own, 1 as run 1; 2 points have none
+
+point  series                         settled  run 1                   run 2                 other versions
+    1  exchange area 1 with outside   both     20260804120001 settled  as run 1              check data (1), settlement data (1)
+    2  group-sum area 1 group 5       both     1 settled               2 correction settled
+    3  operator-sum group 6           run 2    none                    7 correction settled
+    4  delta-transfer area 16         -        none                    none
+    5  exchange area 16 with area 15  -        none                    none                  9 check data
+END
+    expect 'settled: points as json' 0 ./desk points "$work/settled.calls" --json <<END
+[
+{"point":1,"kind":"exchange","area":1,"partner":0,"since":0,"since_date":null,"version":20260804120000,"status":"settlement data","run_1":"no","run_2":"no","settled":"no"},
+{"point":1,"kind":"exchange","area":1,"partner":0,"since":0,"since_date":null,"version":20260804120001,"status":"settled","run_1":"yes","run_2":"yes","settled":"yes"},
+{"point":1,"kind":"exchange","area":1,"partner":0,"since":0,"since_date":null,"version":20260818093000,"status":"check data","run_1":"no","run_2":"no","settled":"no"},
+{"point":2,"kind":"group-sum","area":1,"partner":5,"since":0,"since_date":null,"version":1,"status":"settled","run_1":"yes","run_2":"no","settled":"yes"},
+{"point":2,"kind":"group-sum","area":1,"partner":5,"since":0,"since_date":null,"version":2,"status":"correction settled","run_1":"no","run_2":"yes","settled":"yes"},
+{"point":3,"kind":"operator-sum","area":0,"partner":6,"since":0,"since_date":null,"version":7,"status":"correction settled","run_1":"no","run_2":"yes","settled":"yes"},
+{"point":4,"kind":"delta-transfer","area":16,"partner":0,"since":0,"since_date":null,"version":null,"status":null,"run_1":null,"run_2":null,"settled":null},
+{"point":5,"kind":"exchange","area":16,"partner":15,"since":0,"since_date":null,"version":9,"status":"check data","run_1":"no","run_2":"no","settled":"no"}
+]
+END
+    for file in unsettled first settled; do
+        holds "settled: the lists of $file" python3 tests/forms.py ./desk "$work/$file.calls"
+        page_of "$file" "$work/$file.calls"
+        page_script "$file" "$work/$file.calls"
+    done
+    holds 'settled: the lines of a run on the page' sh -c "grep -qxF '<p>run 1 is settled: 2 of 2 selected versions settled; 3 points have none</p>' '$work/first.html' &&
+        grep -qxF '<p>run 2 is not settled: 1 of 3 selected versions settled; 2 its own, 1 as run 1; 2 points have none</p>' '$work/first.html'"
+    settled_edges
+}
+
+# A refused call beside it, no version at all, no point, no opening; more versions than a line has room for.
+settled_edges() {
+    expect "settled: the paper's case" 1 selected_of examples/example.msg <<END
+run 1 is not settled: 0 of 1 selected version settled
+run 2 is not settled: 0 of 1 selected version settled; 0 its own, 1 as run 1
+
+point  series                        settled  run 1              run 2     other versions
+    1  exchange area 1 with outside  no       7 settlement data  as run 1
+END
+    expect 'settled: no version' 0 selected_of <(printf '%s\n' "$OPEN" 'activate point=256 kind=area-sum area=3 partner=none day=0' 'settle run=1 day=31') <<END
+run 1 is settled: no version selected
+run 2 is not settled: no version selected
+
+point  series           settled  run 1  run 2  other versions
+  256  area-sum area 3  -        none   none
+END
+    expect 'settled: no point' 0 ./desk run <(echo "$OPEN") <<END
+1 call, none refused; day 0; no run settled; 2 quarter hours
+
+every group's month is 0
+END
+    holds 'settled: nothing where the desk is not open' sh -c "! ./desk run '$work/closed.calls' | grep -q '^run [12] is '"
+    expect 'settled: 512 versions of a point' 0 sh -c "./desk run '$work/many.calls' | tail -n 1" <<END
+    1  exchange area 1 with outside  no       512 settlement data  as run 1  settlement data (511)
+END
+    holds 'settled: a table on a terminal' sh -c "TERM=xterm script -qec './desk run $work/settled.calls' /dev/null | grep -q '$(printf '\033')\[32mboth   $(printf '\033')\[0m  20260804120001 settled'"
+}
+
+# selected_of MONTH: what `desk run` says of what each run selects.
+selected_of() {
+    ./desk run "$1" >"$work/ran"
+    set -- $?
+    sed -n '/^run 1 is /,$p' "$work/ran"
+    return "$1"
+}
+
 # The same lists where the month is known: of a message file too.
 dated_lists() {
     local file=$1
     ./desk pack "$file" -o "$work/two.msg"
     expect 'points: dates' 0 ./desk points "$work/two.msg" --month 2026-07 --run 1 <<END
-point  kind            area  partner  since  since date         version  status                      run 1  run 2
-    1  exchange           1        0      0  2026-07-31               7  settled                     yes    yes
-    2  group-sum          1        5      0  2026-07-31              10  settled                     yes    no
+point  kind            area  partner  since  since date         version  status                      run 1  run 2  settled
+    1  exchange           1        0      0  2026-07-31               7  settled                     yes    yes    yes
+    2  group-sum          1        5      0  2026-07-31              10  settled                     yes    no     yes
 END
     expect 'points as csv: dates' 0 ./desk points "$work/two.msg" --month=2026-07 --group 5 --csv <<END
-point,kind,area,partner,since,since_date,version,status,run_1,run_2
-2,group-sum,1,5,0,2026-07-31,10,settled,yes,no
-2,group-sum,1,5,0,2026-07-31,11,correction settlement data,no,yes
+point,kind,area,partner,since,since_date,version,status,run_1,run_2,settled
+2,group-sum,1,5,0,2026-07-31,10,settled,yes,no,yes
+2,group-sum,1,5,0,2026-07-31,11,correction settlement data,no,yes,no
 END
     expect 'log: dates' 0 ./desk log "$work/two.msg" --month 2026-07 --run 1 <<END
  row  day  date        point  run         version
@@ -271,22 +404,22 @@ END
 row,day,date,point,run,version
 END
     expect 'points: one group' 0 ./desk points "$file" --group 5 --csv <<END
-point,kind,area,partner,since,since_date,version,status,run_1,run_2
-2,group-sum,1,5,0,,10,settled,yes,no
-2,group-sum,1,5,0,,11,correction settlement data,no,yes
+point,kind,area,partner,since,since_date,version,status,run_1,run_2,settled
+2,group-sum,1,5,0,,10,settled,yes,no,yes
+2,group-sum,1,5,0,,11,correction settlement data,no,yes,no
 END
     expect 'points: one run' 0 ./desk points "$file" --run 2 --csv <<END
-point,kind,area,partner,since,since_date,version,status,run_1,run_2
-1,exchange,1,0,0,,7,settled,yes,yes
-2,group-sum,1,5,0,,11,correction settlement data,no,yes
+point,kind,area,partner,since,since_date,version,status,run_1,run_2,settled
+1,exchange,1,0,0,,7,settled,yes,yes,yes
+2,group-sum,1,5,0,,11,correction settlement data,no,yes,no
 END
     expect 'points: one group and one run' 0 ./desk points "$file" --run 1 --group 5 --csv <<END
-point,kind,area,partner,since,since_date,version,status,run_1,run_2
-2,group-sum,1,5,0,,10,settled,yes,no
+point,kind,area,partner,since,since_date,version,status,run_1,run_2,settled
+2,group-sum,1,5,0,,10,settled,yes,no,yes
 END
     expect "points: a group of the transmission operator's" 0 ./desk points examples/month.calls --group 6 --csv <<END
-point,kind,area,partner,since,since_date,version,status,run_1,run_2
-5,operator-sum,0,6,0,,1,settlement data,yes,yes
+point,kind,area,partner,since,since_date,version,status,run_1,run_2,settled
+5,operator-sum,0,6,0,,1,settlement data,yes,yes,no
 END
     expect 'figures: one group and one run' 0 ./desk figures "$file" --run 2 --group 5 --json <<END
 [
@@ -748,7 +881,7 @@ help() {
         holds "help of $command, and its example" example "$command"
     done
     has 'help' 0 '^Exit status: 0 all calls accepted' ./desk --help
-    has 'version' 0 '^desk [0-9.]+, library 3$' ./desk --version
+    has 'version' 0 '^desk [0-9.]+, library 4$' ./desk --version
     has 'no command' 2 'desk run' ./desk
     has 'a wrong command' 2 "there is no command 'runn'; commands are run, figures" ./desk runn
     has 'help of a wrong command' 2 "there is no command 'runn'" ./desk help runn
@@ -831,6 +964,8 @@ month() {
     holds 'a large month is run' sh -c "./desk run '$work/large.calls' >'$work/large'"
     holds 'its summary' grep -qx '942 calls, none refused; day 151; runs 1 and 2 settled; 2976 quarter hours' "$work/large"
     ./desk pack "$work/large.calls" -o "$work/large.msg"
+    holds 'its lines of points' test "$(sed '1,/^point  series/d' "$work/large" | wc -l)" -eq 256
+    holds 'no line above 120 columns' sh -c "! grep -qE '.{121}' '$work/large'"
     holds 'the same as a message file' sh -c "./desk run '$work/large.msg' | sed 's/large.msg/large.calls/' | cmp - '$work/large'"
     holds 'the same by a pipe' sh -c "cat '$work/large.msg' | ./desk run - | sed 's/desk log -/desk log large.calls/' | sed 's#desk log .*/#desk log #' >'$work/piped' &&
         sed 's#desk log .*/#desk log #' '$work/large' | cmp - '$work/piped'"
@@ -857,6 +992,8 @@ END
     page_script two "$work/two.calls"
     page_of july examples/july.calls
     page_script july examples/july.calls
+    holds 'what July settles, on the page' sh -c "grep -qxF '<p>run 2 is settled: 7 of 7 selected versions settled; 1 its own, 6 as run 1</p>' '$work/july.html' &&
+        grep -qF '<td class=\"word\">group-sum area 2 group 7</td><td class=\"word good\">both</td><td data-n=\"1\">1</td><td class=\"word\">settled</td><td data-n=\"2\">2</td><td class=\"word\">correction settled</td>' '$work/july.html'"
     holds 'dates on the page' sh -c "grep -q '<strong>21 calls, none refused; day 151 (2027-03-10); ' '$work/july.html' &&
         grep -q '<li>day 21 (2026-08-31): point 3, run 1: ' '$work/july.html' &&
         grep -q 'the deadlines F, day 10 (2026-08-14); C, day 30 (2026-09-11); K, day 150 (2027-03-09)\.' '$work/july.html' &&
@@ -908,6 +1045,7 @@ if ./desk --version >"$work/log" 2>&1; then
     not_open
     sample
     selections
+    settled
     bad_lines
     series_files
     there_and_back

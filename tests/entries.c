@@ -1,4 +1,7 @@
-/* Every entry with NULL where the length is 0, the calendar, and both on a thread of EMORIZUGU_STACK bytes. */
+/*
+ * Every entry with NULL where the length is 0, the calendar, and both on a thread of EMORIZUGU_STACK bytes; the places of
+ * the points, and the versions selected in document 01's sample month with their statuses.
+ */
 #include <pthread.h>
 #include <stdio.h>
 #include <stdlib.h>
@@ -57,6 +60,26 @@ static int nothing(void) {
     return emorizugu_version() == EMORIZUGU_VERSION ? 0 : wrong("the version");
 }
 
+/* Both runs select version 1 of point 1, which is not settled; point 256 is free. */
+static int selected(void) {
+    const uint64_t *last = r.points + 255 * EMORIZUGU_POINT;
+    if (r.points[EMORIZUGU_SELECTED_1] != 1 || r.points[EMORIZUGU_STATUS_1] != 2)
+        return wrong("the version that run 1 selects, and its status");
+    if (r.points[EMORIZUGU_SELECTED_2] != 1 || r.points[EMORIZUGU_STATUS_2] != 2)
+        return wrong("the version that run 2 selects, and its status");
+    return last[EMORIZUGU_STATUS_1] == 0 && last[EMORIZUGU_STATUS_2] == 0 ? 0 : wrong("the statuses of a free point");
+}
+
+/* Points of so many places; nothing is done where they are too few. */
+static int places(size_t points, uint64_t answer) {
+    static struct emorizugu_lent none;
+    none.points[0] = 9;
+    if (emorizugu_replay(NULL, 0, NULL, 0, NULL, 0, NULL, 0, NULL, 0, NULL, 0, none.report, EMORIZUGU_REPORT,
+                         none.points, points, none.versions, EMORIZUGU_VERSIONS_LENGTH) != answer)
+        return wrong("the places of the points");
+    return none.points[0] == (answer == 0 ? 0 : 9) ? 0 : wrong("points that are too few");
+}
+
 static int small_stack(const char *name) {
     FILE *in = fopen(name, "rb");
     pthread_attr_t attributes;
@@ -74,9 +97,13 @@ static int small_stack(const char *name) {
     pthread_attr_setstacksize(&attributes, EMORIZUGU_STACK);
     if (pthread_create(&thread, &attributes, run, &refusal) != 0 || pthread_join(thread, NULL) != 0)
         return wrong("no thread");
-    return refusal == 0 && r.report[EMORIZUGU_REFUSED] == 0 ? 0 : wrong("a replay on a small stack");
+    if (refusal != 0 || r.report[EMORIZUGU_REFUSED] != 0)
+        return wrong("a replay on a small stack");
+    return selected();
 }
 
 int main(int argc, char **argv) {
-    return argc == 2 && nothing() == 0 && small_stack(argv[1]) == 0 ? 0 : 1;
+    if (nothing() != 0 || places(2303, 2) != 0 || places(2304, 0) != 0)
+        return 1;
+    return argc == 2 && small_stack(argv[1]) == 0 ? 0 : 1;
 }

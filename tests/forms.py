@@ -1,7 +1,8 @@
 #!/usr/bin/env python3
 """Compares the forms of each list of `desk` on a month: text, csv and json have the same rows in the same order, at each run, and the order is total.
+Of the points' versions those count that document 01 selects by their statuses, and `desk run` tells the same of each point.
 
-    forms.py DESK MONTH [OPTION..]
+    forms.py DESK MONTH [--group N] [--month M]
 """
 
 import csv
@@ -11,6 +12,9 @@ import re
 import subprocess
 import sys
 
+STATUSES = ("check data", "settlement data", "settled", "correction settlement data", "correction settled")
+FIRST, SECOND, SETTLED = STATUSES[1:3], STATUSES[3:], STATUSES[2::2]
+
 # The columns that a list is ordered by; no two rows are equal in them.
 ORDER = {"figures": ("run", "quarter", "group"), "log": ("row",), "points": ("point", "version")}
 
@@ -19,6 +23,92 @@ def listed(name, *options):
     answer = subprocess.run([sys.argv[1], name, *sys.argv[2:], *options], stdout=subprocess.PIPE, check=False)
     assert answer.returncode in (0, 1), answer.returncode
     return answer.stdout.decode()
+
+
+def highest(versions, statuses):
+    """The highest version of some statuses, of rows that rise."""
+    return ([row for row in versions if row["status"] in statuses] or [None])[-1]
+
+
+def selected(versions):
+    """What document 01 selects of a point's versions in run 1 and in run 2: its own, and without one what run 1 selects."""
+    first = highest(versions, FIRST)
+    return first, highest(versions, SECOND) or first
+
+
+def is_settled(row):
+    return row is not None and row["status"] in SETTLED
+
+
+def series(row):
+    area, partner = f"area {row['area']}", row["partner"]
+    words = {
+        "exchange": f"{area} with " + (f"area {partner}" if partner != "0" else "outside"),
+        "group-sum": f"{area} group {partner}",
+        "operator-sum": f"group {partner}",
+    }
+    return f"{row['kind']} {words.get(row['kind'], area)}"
+
+
+def told_version(row):
+    return f"{row['version']} {row['status']}"
+
+
+def line_of(rows, runs):
+    """A point's cells in the table of `desk run`; the other versions as a list. `runs` are those settled."""
+    versions = [row for row in rows if row["version"]]
+    first, second = selected(versions)
+    settled = [name for name, row in (("run 1", first), ("run 2", second)) if name in runs and is_settled(row)]
+    word = "-" if second is None else "both" if len(settled) == 2 else settled[0] if settled else "no"
+    others = [row for row in reversed(versions) if row not in (first, second)]
+    cells = ["none" if row is None else told_version(row) for row in (first, second)]
+    if second is not None and second is first:
+        cells[1] = "as run 1"
+    return [rows[0]["point"], series(rows[0]), word, *cells, others]
+
+
+def fitted(others, room):
+    """Versions one by one where there is room for them, at least as wide as the column's name, else by status."""
+    whole = ", ".join(map(told_version, others))
+    if len(whole) <= max(room, len("other versions")):
+        return whole
+    statuses = [row["status"] for row in others]
+    return ", ".join(f"{status} ({statuses.count(status)})" for status in STATUSES if status in statuses)
+
+
+def told(points):
+    """The table of `desk run` has each point's line."""
+    month = [word for at, word in enumerate(sys.argv) if word == "--month" or sys.argv[at - 1] == "--month"]
+    answer = subprocess.run([sys.argv[1], "run", sys.argv[2], *month], stdout=subprocess.PIPE, check=False)
+    text = answer.stdout.decode()
+    head, *lines = text[text.index("\npoint  series ") + 1 :].splitlines()
+    places = [head.index(word) for word in ("series", "settled", "run 1", "run 2", "other versions")]
+    cells = [[one[a:b].strip() for a, b in zip([0, *places], [*places, None])] for one in lines]
+    found = {row[0]: row for row in cells}
+    assert list(found) == sorted(found, key=int), "desk run"
+    runs = [run for run in ("run 1", "run 2") if f"\n{run} is settled: " in text]
+    for rows in points:
+        *wanted, others = line_of(rows, runs)
+        *cells_there, rest = found[wanted[0]]
+        assert cells_there == wanted, (cells_there, wanted)
+        assert rest == fitted(others, 120 - places[-1]), (rest, others)
+
+
+def points_of(rows):
+    """The rows of each point, its versions rising."""
+    numbers = sorted({int(row["point"]) for row in rows})
+    return [[row for row in rows if int(row["point"]) == number] for number in numbers]
+
+
+def counted(points):
+    """The versions that count are those that are selected, and each is settled by its status."""
+    for rows in points:
+        versions = [row for row in rows if row["version"]]
+        for run, wanted in enumerate(selected(versions), 1):
+            for row in versions:
+                assert row[f"run_{run}"] == ("yes" if row is wanted else "no"), row
+        for row in versions:
+            assert row["settled"] == ("yes" if is_settled(row) else "no"), row
 
 
 def main():
@@ -36,6 +126,9 @@ def main():
         assert shown == [[cell for cell in row if cell] for row in rows], name
         keys = [tuple(int(row[head.index(column)] or 0) for column in order) for row in rows]
         assert all(one < next for one, next in zip(keys, keys[1:])), name
+    points = points_of(list(csv.DictReader(io.StringIO(listed("points", "--csv")))))
+    counted(points)
+    told(points)
 
 
 main()

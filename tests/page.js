@@ -1,5 +1,5 @@
 // Runs the script of a page of `desk page` over a stand-in for a browser's document, clicks, and compares what it draws and tells with the lists:
-// heat maps, a group's curve on a click, the timeline; a sorted column keeps ties in the list's order and each row whole.
+// heat maps, a group's curve on a click, the timeline, what each run selects; a sorted column keeps ties in the list's order and each row whole.
 //
 //     node page.js PAGE FIGURES POINTS LOG        the lists as csv, figures with --all
 "use strict";
@@ -189,7 +189,27 @@ function listed(table, list) {
   return shown;
 }
 
-const [, , pointTable, logTable] = tables;
+// ---- what each run selects
+
+function seriesOf({ kind, area, partner }) {
+  const words = { exchange: `area ${area} with ${partner === "0" ? "outside" : "area " + partner}`, "group-sum": `area ${area} group ${partner}`, "operator-sum": `group ${partner}` };
+  return `${kind} ${words[kind] || "area " + area}`;
+}
+
+// A row a point, by the list's marks: number, series, in which runs it is settled, version and status of each run, the other versions.
+function selectedRow(number) {
+  const rows = points.filter((row) => row.point === number);
+  const picked = ["run_1", "run_2"].map((run) => rows.find((row) => row[run] === "yes"));
+  const settled = picked.map((row, at) => row !== undefined && row.settled === "yes" && page.includes(`<p>run ${at + 1} is settled: `));
+  const word = picked[1] === undefined ? "-" : settled[0] && settled[1] ? "both" : settled[0] ? "run 1" : settled[1] ? "run 2" : "no";
+  const status = (row, run) => run === 1 && row === picked[0] ? row.status + ", as run 1" : row.status;
+  const cells = picked.flatMap((row, run) => row === undefined ? ["", ""] : [row.version, status(row, run)]);
+  const others = rows.filter((row) => row.version !== "" && !picked.includes(row)).map((row) => `${row.version} ${row.status}`).reverse();
+  return [number, seriesOf(rows[0]), word, ...cells, others.join(", ")];
+}
+
+const [, , selectedTable, pointTable, logTable] = tables;
+assert.deepStrictEqual(selectedTable.tBodies[0].rows.map((row) => row.cells.map((cell) => cell.textContent)), [...new Set(points.map((row) => row.point))].map(selectedRow));
 for (const [table, list] of [[pointTable, points], [logTable, log]]) assert.deepStrictEqual(listed(table, list), list.map((row) => Object.values(row).join()));
 timeline();
 const high = heat(0);

@@ -25,6 +25,8 @@ G 1 1 1 1000
 T 1 1 1000
 G 2 1 1 1000
 T 2 1 1000
+S 1 1 7 2
+S 2 1 7 2
 END
     expect 'the sample month' 0 ./run <<END
 1 0
@@ -64,6 +66,18 @@ G 2 2 4 -100
 G 2 2 5 45000
 G 2 2 6 8200
 T 2 2 80000
+S 1 1 1 2
+S 1 2 1 2
+S 1 3 1 2
+S 1 4 1 2
+S 1 5 1 2
+S 1 6 1 2
+S 2 1 1 2
+S 2 2 1 2
+S 2 3 1 2
+S 2 4 1 2
+S 2 5 1 2
+S 2 6 1 2
 END
     expect 'an empty file' 0 ./run examples/empty.msg <<END
 ! run: examples/empty.msg is empty: it has no calls
@@ -156,6 +170,8 @@ T 1 1 0
 G 2 1 1 7
 G 2 1 5 -7
 T 2 1 0
+S 1 1 1 3
+S 2 1 2 4
 END
     pack outside.msg <<END
 $OPEN
@@ -172,6 +188,8 @@ G 1 1 64 -1000000000000
 T 1 1 -1000000000000
 G 2 1 64 -1000000000000
 T 2 1 -1000000000000
+S 1 256 99999999999999 2
+S 2 256 99999999999999 2
 END
     pack answers.msg <<END
 submit point=1 version=1 day=2 energies=1
@@ -201,6 +219,54 @@ T 2 1 0
 END
 }
 
+# What the runs select, with its status, before and after each settle. Point 3 is activated first; point 4 has check data.
+desk_on_statuses() {
+    cat >"$work/corrected.calls" <<END
+$OPEN
+activate point=3 kind=3 area=1 partner=0 day=0
+activate point=1 kind=1 area=1 partner=0 day=0
+activate point=2 kind=2 area=1 partner=5 day=0
+activate point=4 kind=5 area=1 partner=0 day=0
+submit point=1 version=7 day=2 energies=1000
+submit point=2 version=1 day=2 energies=10
+submit point=2 version=2 day=11 energies=20
+submit point=3 version=1 day=11 energies=5
+submit point=4 version=1 day=11 energies=6
+notice point=2 version=2 verdict=1 day=31
+notice point=3 version=1 verdict=1 day=31
+END
+    cat >"$work/figures" <<END
+G 1 1 1 990
+G 1 1 5 10
+T 1 1 1000
+G 2 1 1 975
+G 2 1 4 5
+G 2 1 5 20
+T 2 1 1000
+END
+    statuses 'settlement data, and correction settlement data' 2 4 </dev/null
+    statuses 'run 1 settled, and run 2 with it where it has no own' 3 4 <<END
+settle run=1 day=31
+END
+    statuses 'both runs settled' 3 5 <<END
+settle run=1 day=31
+settle run=2 day=151
+END
+}
+
+# statuses NAME FIRST SECOND: the month of desk_on_statuses with the calls on standard input, all accepted: statuses of the
+# versions that run 1 selects, and of those that run 2 has of its own.
+statuses() {
+    cat "$work/corrected.calls" - >"$work/statuses.calls"
+    pack statuses.msg <"$work/statuses.calls"
+    {
+        numbered 1 "$(wc -l <"$work/statuses.calls")" 0
+        cat "$work/figures"
+        printf 'S 1 1 7 %d\nS 1 2 1 %d\nS 2 1 7 %d\nS 2 2 2 %d\nS 2 3 1 %d\n' "$2" "$2" "$2" "$3" "$3"
+    } >"$work/statuses"
+    expect "$1" 0 ./run "$work/statuses.msg" <"$work/statuses"
+}
+
 # repeat BYTES TIMES: the bytes, as printf writes them, so many times.
 repeat() {
     python3 -c 'import sys; sys.stdout.buffer.write(bytes.fromhex(sys.argv[1]) * int(sys.argv[2]))' "$1" "$2"
@@ -217,7 +283,7 @@ desk_on_long_files() {
     {
         printf '1 0\n2 0\n3 0\n4 14\n'
         numbered 5 21835 5
-        printf 'G 1 1 1 1000\nT 1 1 1000\nG 2 1 1 1000\nT 2 1 1000\n'
+        printf 'G 1 1 1 1000\nT 1 1 1000\nG 2 1 1 1000\nT 2 1 1000\nS 1 1 7 2\nS 2 1 7 2\n'
     } >"$work/full"
     expect '65,536 bytes' 0 ./run "$work/full.msg" <"$work/full"
     { cat "$work/full.msg" && repeat ff 70000; } >"$work/long.msg"
@@ -255,6 +321,8 @@ G 1 1 1 1000
 T 1 1 1000
 G 2 1 1 1000
 T 2 1 1000
+S 1 1 7 2
+S 2 1 7 2
 END
 }
 
@@ -381,6 +449,7 @@ if ./run examples/empty.msg >"$work/log" 2>&1; then
     desk_on_damaged_files
     desk_on_openings
     desk_on_figures
+    desk_on_statuses
     desk_on_long_files
     desk_on_small_stack
     run_itself

@@ -2,6 +2,7 @@
 
 use crate::buffers::{Buffers, REPORT};
 use emorizugu_tests::linked;
+use emorizugu_tests::replay;
 
 /// A whole message file through a fresh desk: 0, or the number of the refusal that ended it.
 pub fn replay(file: &[u8], buffers: &mut Buffers) -> u64 {
@@ -13,7 +14,8 @@ pub fn replay(file: &[u8], buffers: &mut Buffers) -> u64 {
         answers,
         report,
     } = buffers;
-    let (mut told, mut points, mut versions) = ([0; 10], [0; 7 * 256], [0; 4 * 512]);
+    let mut told = [0; replay::REPORT];
+    let (mut points, mut versions) = ([0; replay::POINTS], [0; replay::VERSIONS]);
     let tables = [&mut told[..], &mut points, &mut versions];
     let number = linked::replay(file, values, book, log, series, answers, tables);
     let places = report.len().min(REPORT);

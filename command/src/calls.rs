@@ -147,6 +147,15 @@ pub fn name_in(table: &[&'static str], number: u64) -> &'static str {
         .unwrap_or("unknown")
 }
 
+/// Whether something holds, as lists say it.
+pub fn yes(holds: bool) -> &'static str {
+    if holds {
+        "yes"
+    } else {
+        "no"
+    }
+}
+
 /// Where a call stands: its line in a text (0: there is none), its number, the offset of its first byte.
 #[derive(Clone, Copy, Default)]
 pub struct Place {

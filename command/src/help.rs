@@ -20,6 +20,10 @@ const HELPS: [Help; 11] = [
             Each refused call is named with its line and number, the cause, and what would mend it. Then come how many calls were\n\
             answered and refused, the desk's day, which runs are settled, the selections that changed, and each group's month:\n\
             the sum of run 1, of run 2, and run 2 less run 1, in watt-hours.\n\
+            Last comes what is settled: for each run how many of the versions that it selects, and for each active point its series, in\n\
+            which runs the selected version is settled (both, run 1, run 2, no; - where none is selected), what each run selects with its\n\
+            status (as run 1: run 2 has none of its own), and its other versions with their statuses, the highest first; where a line has\n\
+            no room for them, how many there are of each status.\n\
             Where the month is known, each day is shown with its date: by a line `month YYYY-MM` of the text (desk pack --help), or by\n\
             --month, for a message file and for a text without that line.",
         example: "desk run examples/month.calls",
@@ -46,20 +50,22 @@ const HELPS: [Help; 11] = [
     Help {
         name: "points",
         usage: "desk points FILE [--run N] [--group N] [--month YYYY-MM] [--csv | --json]",
-        short: "each point's series with its versions, their status, and which of them count",
+        short: "each point's series with its versions, their status, which of them count, and whether they are settled",
         body: "Active points by number, a point's versions by version; a point without a version has one row.\n\
             --run picks the versions that count in that run, --group the points whose series is a sum of that balance group\n\
             (group-sum and operator-sum, the group as partner). --month names the settled month.\n\
             Columns: point, kind, area, partner, since (the day of its activation), since_date (empty where the month is not known,\n\
-            or the day has none), version, status, run_1 and run_2 (yes where the version counts in that run, else no).",
+            or the day has none), version, status, run_1 and run_2 (yes where the version counts in that run, else no), settled (yes where\n\
+            its status is settled or correction settled, else no).",
         example: "desk points examples/month.calls",
     },
     Help {
         name: "page",
         usage: "desk page FILE [--month YYYY-MM] [-o PAGE]",
         short: "the month as one page for a browser, with no outside parts",
-        body: "The month's totals, a heat map of groups over quarter hours for each run, a group's curve on click, the deltas,\n\
-            refused calls, and the log as a timeline. --month names the settled month, so that days have dates.",
+        body: "The month's totals, a heat map of groups over quarter hours for each run, a group's curve on click, the deltas, what each run\n\
+            selects with its status and whether it is settled, points and their versions, refused calls, and the log as a timeline.\n\
+            --month names the settled month, so that days have dates.",
         example: "desk page examples/month.calls -o month.html",
     },
     Help {

@@ -14,8 +14,8 @@ pub const POINTS: usize = 256;
 pub const BOOK_ROWS: usize = 162;
 pub const GROUPS: u64 = 64;
 
-/// The places of a point: active, since, kind, area, partner, the version of run 1, the version of run 2.
-const POINT_PLACES: usize = 7;
+/// The places of a point: active, since, kind, area, partner, the versions that run 1 and run 2 select, the statuses of these.
+const POINT_PLACES: usize = 9;
 /// The places of a version: point, version, status, row of values.
 const VERSION_PLACES: usize = 4;
 /// The places of a replay's report: calls answered, offset, quarter hours, log rows, versions held, calls refused, the
@@ -143,11 +143,16 @@ pub struct Point {
     pub kind: u64,
     pub area: u64,
     pub partner: u64,
-    /// The version that counts in run 1 and in run 2; 0 where there is none.
-    pub selected: [u64; 2],
+    /// What run 1 and run 2 select, with its status.
+    pub selected: [Option<Version>; 2],
 }
 
 impl Point {
+    /// Whether a run, 1 or 2, selects a version of the point.
+    pub fn selects(&self, run: u64, version: &Version) -> bool {
+        self.selected[run as usize - 1].is_some_and(|selected| selected.version == version.version)
+    }
+
     /// The balance group whose sum the series is, where it is one: kinds 2 and 4 have it as their partner.
     pub fn group(&self) -> Option<u64> {
         matches!(self.kind, 2 | 4).then_some(self.partner)
@@ -160,6 +165,18 @@ pub struct Version {
     pub point: u64,
     pub version: u64,
     pub status: u64,
+}
+
+impl Version {
+    /// Whether it is settled, by run 1 (status 3) or by run 2 (5).
+    pub fn is_settled(&self) -> bool {
+        matches!(self.status, 3 | 5)
+    }
+
+    /// Whether it counts as run 2's own (4 and 5), and not for run 1.
+    pub fn is_correction(&self) -> bool {
+        matches!(self.status, 4 | 5)
+    }
 }
 
 /// A row of the log.
@@ -250,14 +267,29 @@ pub fn replay(file: &[u8], calls: usize) -> Replay {
     }
 }
 
+/// What a run selects at a point; nothing where the number is 0.
+fn selected(point: u64, version: u64, status: u64) -> Option<Version> {
+    (version != 0).then_some(Version {
+        point,
+        version,
+        status,
+    })
+}
+
 fn active(points: &[u64]) -> Vec<Point> {
-    let point = |(at, row): (usize, &[u64])| Point {
-        number: at as u64 + 1,
-        since: row[1],
-        kind: row[2],
-        area: row[3],
-        partner: row[4],
-        selected: [row[5], row[6]],
+    let point = |(at, row): (usize, &[u64])| {
+        let number = at as u64 + 1;
+        Point {
+            number,
+            since: row[1],
+            kind: row[2],
+            area: row[3],
+            partner: row[4],
+            selected: [
+                selected(number, row[5], row[7]),
+                selected(number, row[6], row[8]),
+            ],
+        }
     };
     points
         .chunks_exact(POINT_PLACES)
@@ -282,6 +314,13 @@ fn held_in_order(versions: &[u64]) -> Vec<Version> {
 }
 
 impl Replay {
+    /// The versions of a point, rising.
+    pub fn versions_of(&self, point: u64) -> impl DoubleEndedIterator<Item = &Version> {
+        self.versions
+            .iter()
+            .filter(move |version| version.point == point)
+    }
+
     /// A group's figure in a quarter hour, both counted from 1.
     pub fn figure(&self, run: u64, group: u64, quarter: usize) -> i64 {
         // A word's bytes stand lowest first on the machines that the library is built for.

@@ -2,7 +2,7 @@
 //! written; points by number, and a point's versions by version. What is picked stays in that order.
 
 use crate::arguments::Wanted;
-use crate::calls::{name_in, SERIES, STATUSES};
+use crate::calls::{name_in, yes, SERIES, STATUSES};
 use crate::library::{Point, Version, GROUPS};
 use crate::month::{self, Ran};
 use crate::output::{self, Failure};
@@ -108,14 +108,25 @@ const POINTS: &[Column] = &[
     Column("status", -26),
     Column("run_1", -5),
     Column("run_2", -5),
+    Column("settled", -7),
 ];
 
-fn yes(counts: bool) -> Cell<'static> {
-    Cell::Word(if counts { "yes" } else { "no" })
+/// What a version is: its number and status, whether run 1 and run 2 select it, whether it is settled.
+fn version_cells(point: &Point, version: &Version) -> [Cell<'static>; 5] {
+    let whether = |holds: bool| Cell::Word(yes(holds));
+    [
+        number(version.version),
+        Cell::Word(name_in(&STATUSES, version.status)),
+        whether(point.selects(1, version)),
+        whether(point.selects(2, version)),
+        whether(version.is_settled()),
+    ]
 }
 
 fn point_row(sheet: &mut Sheet, ran: &Ran, point: &Point, version: Option<&Version>) {
-    let counts = |run: usize, version: &Version| yes(point.selected[run] == version.version);
+    let nothing = [const { Cell::Nothing }; 5];
+    let [version, status, first, second, settled] =
+        version.map_or(nothing, |version| version_cells(point, version));
     sheet.row(&[
         number(point.number),
         Cell::Word(name_in(&SERIES, point.kind)),
@@ -123,16 +134,15 @@ fn point_row(sheet: &mut Sheet, ran: &Ran, point: &Point, version: Option<&Versi
         number(point.partner),
         number(point.since),
         date(&ran.date(point.since)),
-        version.map_or(Cell::Nothing, |version| number(version.version)),
-        version.map_or(Cell::Nothing, |version| {
-            Cell::Word(name_in(&STATUSES, version.status))
-        }),
-        version.map_or(Cell::Nothing, |version| counts(0, version)),
-        version.map_or(Cell::Nothing, |version| counts(1, version)),
+        version,
+        status,
+        first,
+        second,
+        settled,
     ]);
 }
 
-/// Each active point's series with its versions, and whether they count in run 1 and run 2.
+/// Each active point's series with its versions, whether they count in run 1 and run 2, and whether they are settled.
 pub fn points(wanted: &Wanted) -> Result<i32, Failure> {
     let ran = month::run(wanted)?;
     let mut sheet = Sheet::new(wanted.form, POINTS);
@@ -143,11 +153,10 @@ pub fn points(wanted: &Wanted) -> Result<i32, Failure> {
         .filter(|point| picked(wanted, point))
     {
         let counts = |version: &&Version| match wanted.run {
-            Some(run) => point.selected[run as usize - 1] == version.version,
+            Some(run) => point.selects(run, version),
             None => true,
         };
-        let of_point = |version: &&Version| version.point == point.number;
-        let mut versions = ran.replay.versions.iter().filter(of_point).peekable();
+        let mut versions = ran.replay.versions_of(point.number).peekable();
         if versions.peek().is_none() && wanted.run.is_none() {
             point_row(&mut sheet, &ran, point, None);
         }

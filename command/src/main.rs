@@ -17,6 +17,7 @@ mod numbers;
 mod output;
 mod page;
 mod refusals;
+mod selections;
 mod series;
 mod sheet;
 mod summary;

@@ -1,11 +1,12 @@
 //! `desk page`: the month as one page for a browser, with no outside parts.
 
 use crate::arguments::Wanted;
-use crate::calls::{name_in, OPEN, SERIES, STATUSES};
+use crate::calls::{name_in, yes, OPEN, SERIES, STATUSES};
 use crate::library::{Point, Replay, Version, GROUPS};
 use crate::month::{self, Ran};
 use crate::output::{self, Failure};
 use crate::refusals;
+use crate::selections;
 use crate::sheet::json_word;
 use crate::summary::{changes, grouped, headline};
 use crate::ACCEPTED;
@@ -60,50 +61,69 @@ fn day(ran: &Ran, day: u64) -> String {
     number(day as i64) + &word(&ran.date(day))
 }
 
+/// A version's number, as it is.
+fn version_cell(version: &Version) -> String {
+    format!("<td data-n=\"{0}\">{0}</td>", version.version)
+}
+
 fn version_row(ran: &Ran, point: &Point, version: Option<&Version>) -> String {
     let [number_of, area, partner] =
         [point.number, point.area, point.partner].map(|n| number(n as i64));
     let since = day(ran, point.since);
     let kind = word(name_in(&SERIES, point.kind));
-    let counts = |run: usize, version: &Version| {
-        word(if point.selected[run] == version.version {
-            "yes"
-        } else {
-            "no"
-        })
-    };
-    let told = version.map_or(
-        "<td></td><td></td><td></td><td></td>".to_string(),
-        |version| {
-            let status = word(name_in(&STATUSES, version.status));
-            let n = version.version;
-            format!(
-                "<td data-n=\"{n}\">{n}</td>{status}{}{}",
-                counts(0, version),
-                counts(1, version)
-            )
-        },
-    );
+    let told = version.map_or("<td></td>".repeat(5), |version| {
+        let whether = [
+            point.selects(1, version),
+            point.selects(2, version),
+            version.is_settled(),
+        ];
+        version_cell(version)
+            + &word(name_in(&STATUSES, version.status))
+            + &whether.map(|holds| word(yes(holds))).concat()
+    });
     format!("<tr>{number_of}{kind}{area}{partner}{since}{told}</tr>\n")
 }
 
 fn points(ran: &Ran) -> String {
-    let replay = &ran.replay;
     let of = |point: &Point| -> String {
-        let versions: Vec<&Version> = replay
-            .versions
-            .iter()
-            .filter(|version| version.point == point.number)
-            .collect();
-        if versions.is_empty() {
+        let mut versions = ran.replay.versions_of(point.number).peekable();
+        if versions.peek().is_none() {
             return version_row(ran, point, None);
         }
         versions
-            .iter()
             .map(|version| version_row(ran, point, Some(version)))
             .collect()
     };
-    replay.points.iter().map(of).collect()
+    ran.replay.points.iter().map(of).collect()
+}
+
+/// The rows of what each run selects, a row a point.
+fn selected(replay: &Replay) -> String {
+    let cells = |point: &Point, run: u64| {
+        let selected = point.selected[run as usize - 1];
+        selected.map_or("<td></td><td></td>".to_string(), |version| {
+            version_cell(&version) + &word(&selections::status(run, &version))
+        })
+    };
+    let row = |point: &Point| {
+        let settled = selections::settled(replay, point);
+        let mood = if settled == "both" { " good" } else { "" };
+        format!(
+            "<tr>{}{}<td class=\"word{mood}\">{settled}</td>{}{}<td class=\"word long\">{}</td></tr>\n",
+            number(point.number as i64),
+            word(&selections::series(point)),
+            cells(point, 1),
+            cells(point, 2),
+            selections::listed(&selections::others(replay, point))
+        )
+    };
+    replay.points.iter().map(row).collect()
+}
+
+/// How much of what each run selects is settled, a line a run.
+fn shares(replay: &Replay) -> String {
+    let line = |run: u64| format!("<p>{}</p>\n", escaped(&selections::share(replay, run)));
+    (1..=2).map(line).collect()
 }
 
 fn log(ran: &Ran) -> String {
@@ -283,6 +303,8 @@ pub fn page(ran: &Ran) -> String {
         ("changes", changed(ran)),
         ("groups", rows),
         ("deltas", deltas(replay)),
+        ("shares", shares(replay)),
+        ("selected", selected(replay)),
         ("points", points(ran)),
         ("deadlines", deadlines_told(ran)),
         ("log", log(ran)),

@@ -6,6 +6,7 @@ use crate::library::{LogRow, Replay, GROUPS};
 use crate::month::{self, Ran};
 use crate::output::{self, Failure};
 use crate::refusals::{self, Refusal};
+use crate::selections;
 use crate::{ACCEPTED, REFUSED};
 
 /// Colours where the output is a terminal.
@@ -133,7 +134,7 @@ pub fn changes(log: &[LogRow]) -> Vec<Change> {
 /// The most changes of a selection that the summary names one by one.
 const NAMED: usize = 20;
 
-fn selection(ran: &Ran) -> String {
+fn changed(ran: &Ran) -> String {
     let changes = changes(&ran.replay.log);
     if changes.is_empty() {
         return String::new();
@@ -185,6 +186,33 @@ fn groups(replay: &Replay, paint: &Paint) -> String {
             line
         } else {
             paint.bold(&line)
+        });
+        text.push('\n');
+    }
+    text
+}
+
+/// What each run selects and whether it is settled: a line a run, then a line a point.
+fn selected(replay: &Replay, paint: &Paint) -> String {
+    if replay.points.is_empty() {
+        return String::new();
+    }
+    let mut text = String::from("\n");
+    for run in 1..=2 {
+        text.push_str(&paint.bold(&selections::share(replay, run)));
+        text.push('\n');
+    }
+    text.push('\n');
+    for (at, mut line) in selections::table(replay).into_iter().enumerate() {
+        if line[2].starts_with("both") {
+            line[2] = paint.green(&line[2]);
+        }
+        let line = line.join("  ");
+        let line = line.trim_end();
+        text.push_str(&if at == 0 {
+            paint.bold(line)
+        } else {
+            line.to_string()
         });
         text.push('\n');
     }
@@ -249,8 +277,9 @@ pub fn run(wanted: &Wanted) -> Result<i32, Failure> {
         ));
     }
     if ran.replay.quarters > 0 {
-        text.push_str(&selection(&ran));
+        text.push_str(&changed(&ran));
         text.push_str(&groups(&ran.replay, &paint));
+        text.push_str(&selected(&ran.replay, &paint));
     }
     output::write(text.as_bytes())?;
     Ok(status)

@@ -1,9 +1,10 @@
-//! What the compared calls were: how often each answer came up, and how often each case that is easy to get wrong.
+//! What the compared calls and selected versions were: how often each answer and each status came up, and how often each case
+//! that is easy to get wrong.
 
 use crate::call::{Call, Lengths};
 use crate::desk::{Answer, Desk, LOG_ROW, MOST_VERSIONS};
 use crate::tally::Tally;
-use crate::worked::{Month, Point};
+use crate::worked::{Month, Point, Version};
 
 /// Gives a call to the plain desk, and counts it.
 pub fn called(tally: &mut Tally, desk: &mut Desk, call: &Call, lent: Lengths) -> Answer {
@@ -117,4 +118,68 @@ fn count_notice(tally: &mut Tally, point: &Point, version: u64, gained: bool) {
 fn on_one_row(month: &Month, point: &Point) -> bool {
     let rows = month.rows_of(point);
     (1..rows.len()).any(|at| rows[..at].iter().any(|row| row.0 == rows[at].0))
+}
+
+/// Who selects a version, with the statuses that it can have.
+pub const STATUSES: [(&str, &[u64]); 3] = [
+    ("selected by run 1", &[2, 3]),
+    ("selected by run 2, its own", &[4, 5]),
+    ("selected by run 2, as by run 1", &[2, 3]),
+];
+
+/// Cases in which the status of a selected version is easy to get wrong, with the numbers that they are counted by: the
+/// status or the run.
+pub const SELECTIONS: [(&str, &[u64]); 4] = [
+    ("as by run 1, and run 2 is settled", &[3]),
+    ("not settled, behind the deadline", &[2, 4]),
+    ("below a version of another status", &[1, 2]),
+    ("above a version of another status", &[1, 2]),
+];
+
+/// Counts the selected versions of both runs, by `STATUSES` and `SELECTIONS`.
+pub fn count_selected(tally: &mut Tally, month: &Month) {
+    for run in 1..=2 {
+        for (_, point, version) in month.selected(run) {
+            let fallback = run == 2 && point.own(2).is_none();
+            let what = match (run, fallback) {
+                (1, _) => "selected by run 1",
+                (_, false) => "selected by run 2, its own",
+                (_, true) => "selected by run 2, as by run 1",
+            };
+            tally.add(what, version.status);
+            if fallback && month.settled[1] {
+                tally.add("as by run 1, and run 2 is settled", version.status);
+            }
+            count_status(tally, month, version);
+            count_beside(tally, run, point, version);
+        }
+    }
+}
+
+/// A status that a settle has not changed yet although its day has come.
+fn count_status(tally: &mut Tally, month: &Month, version: &Version) {
+    let behind = match version.status {
+        2 => month.day > month.clearing,
+        4 => month.day > month.correction,
+        _ => false,
+    };
+    if behind {
+        tally.add("not settled, behind the deadline", version.status);
+    }
+}
+
+/// A selected version beside others of its point that have another status.
+fn count_beside(tally: &mut Tally, run: u64, point: &Point, selected: &Version) {
+    let others = || {
+        point
+            .versions
+            .iter()
+            .filter(|v| v.status != selected.status)
+    };
+    if others().any(|other| other.number > selected.number) {
+        tally.add("below a version of another status", run);
+    }
+    if others().any(|other| other.number < selected.number) {
+        tally.add("above a version of another status", run);
+    }
 }

@@ -91,6 +91,38 @@ fn submission_of(bytes: usize) -> generator::Call {
     }
 }
 
+/// A month of eight quarter hours with full tables: 256 points, the last activated first, each with two versions of the
+/// highest numbers and energies. The first is one of run 1, the second one of run 2 at every other point, else check data. The
+/// last two calls settle the runs. Every call is accepted.
+pub fn full_month() -> Vec<generator::Call> {
+    let call = |kind: u64, fields: &[u64], series: &[u64]| generator::Call {
+        kind,
+        fields: fields.to_vec(),
+        series: series.to_vec(),
+    };
+    let exchanges = (1..=16).flat_map(|area| (0..area).map(move |partner| (1, area, partner)));
+    let sums = (1..=2).flat_map(|area| (1..=64).map(move |group| (2, area, group)));
+    let points: Vec<_> = (1..=256).rev().zip(exchanges.chain(sums)).collect();
+    let versions = [99_999_999_999_998, 99_999_999_999_999];
+    let energies = [1_000_000_000_000; 8];
+    let opening = [[8, 10, 30, 150].as_slice(), &[1; 17]].concat();
+    let mut calls = vec![call(1, &opening, &[])];
+    for &(point, (kind, area, partner)) in &points {
+        calls.push(call(2, &[point, kind, area, partner, 0], &[]));
+    }
+    for (version, day) in versions.into_iter().zip([2, 11]) {
+        for &(point, _) in &points {
+            calls.push(call(SUBMIT, &[point, version, day], &energies));
+        }
+    }
+    for &(point, _) in points.iter().filter(|(point, _)| point % 2 == 0) {
+        calls.push(call(5, &[point, versions[1], 1, 31], &[]));
+    }
+    calls.push(call(7, &[1, 31], &[]));
+    calls.push(call(7, &[2, 151], &[]));
+    calls
+}
+
 /// How a month's file is made: mostly whole or cut.
 pub fn shape(random: &mut Random) -> Shape {
     match random.below(40) {

@@ -1,5 +1,6 @@
-//! A second implementation of document 01 and of document 02's calendar, written from the papers alone, and what its
-//! comparison with the proved libraries needs. The comparisons themselves stand in `tests/`, one file for each thing compared.
+//! A second implementation of document 01 and of document 02's calendar and statuses, written from the papers alone, and
+//! what its comparison with the proved libraries needs. The comparisons themselves stand in `tests/`, one file for each thing
+//! compared.
 //!
 //! | module | what it is |
 //! |---|---|
@@ -18,7 +19,7 @@
 //! | `files` | message files of months, whole and spoiled, and the calls of a file as text |
 //! | `damage` | the fields of the desk's state with their limits |
 //! | `compare` | a month with both desks, and the shortest list of calls where they differ |
-//! | `counts` | which cases the compared calls were |
+//! | `counts` | which cases the compared calls and selected versions were |
 //! | `tally` | how often each answer was compared |
 
 #![warn(missing_docs)]

@@ -19,6 +19,8 @@ pub enum Size {
     Points,
     /// Some 60 calls in a month of so many quarter hours.
     Quarters(u64),
+    /// Some 60 calls in a month of so many quarter hours, of which mostly both runs are settled.
+    Settled(u64),
 }
 
 /// Numbers at the ends of a field's range, beyond them, and such as a narrower number takes for others.
@@ -80,7 +82,7 @@ pub(crate) struct Plan {
 pub fn month(random: &mut Random, size: Size) -> Trial {
     let plan = plan(random, size);
     let calls = match size {
-        Size::Short | Size::Quarters(_) => 40 + random.below(41),
+        Size::Short | Size::Quarters(_) | Size::Settled(_) => 40 + random.below(41),
         Size::Versions => 690 + random.below(40),
         Size::Points => 440 + random.below(260),
     };
@@ -92,6 +94,7 @@ pub fn month(random: &mut Random, size: Size) -> Trial {
     let mut desk = Desk::new();
     let pace = match size {
         Size::Versions => 50,
+        Size::Settled(_) => 85 + random.below(35),
         _ => 70 + random.below(50),
     };
     for at in 0..calls {
@@ -129,7 +132,7 @@ pub fn refused(random: &mut Random, trial: &Trial, desk: &Desk, calls: usize) ->
 
 fn plan(random: &mut Random, size: Size) -> Plan {
     let quarters = match size {
-        Size::Quarters(quarters) => quarters,
+        Size::Quarters(quarters) | Size::Settled(quarters) => quarters,
         Size::Short => random.of(&[1, 1, 2, 2, 3, 4]),
         Size::Versions | Size::Points => random.of(&[1, 1, 1, 2]),
     };
@@ -147,6 +150,7 @@ fn plan(random: &mut Random, size: Size) -> Plan {
     let (rows, log_rows) = match size {
         Size::Versions => (512 + random.below(3), 600),
         Size::Points => (600, random.of(&[100, 512])),
+        Size::Settled(_) => (40, 40),
         _ => (
             random.of(&[0, 3, 7, 40, 40, 40, 40, 600]),
             random.of(&[0, 1, 2, 4, 8, 40, 40, 40, 40]),
@@ -202,6 +206,7 @@ fn days(random: &mut Random, size: Size, f: u64, c: u64, k: u64) -> Vec<u64> {
     match size {
         Size::Versions => {}
         Size::Points => days.extend([0; 16]),
+        Size::Settled(_) => days.extend([0, late, k + 1, k + 1, k + 1, k + 1]),
         _ => days.push(0),
     }
     days.extend([f + 1, f + 1, f + 1, middle, c, c, c]);

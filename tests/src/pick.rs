@@ -44,6 +44,7 @@ impl<'a> Pick<'a> {
             Size::Points if self.month.points.len() < 256 && self.planned == 0 => {
                 [1, 300, 1, 2, 1, 1, 1, 1, 1]
             }
+            _ if self.due().is_some() => [1, 1, 1, 6, 24, 2, 1, 1, 6],
             _ if self.month.points.len() < 3 => [1, 40, 2, 12, 2, 4, 2, 2, 4],
             _ => [2, 9, 6, 40, 28, 9, 7, 8, 7],
         };
@@ -321,9 +322,23 @@ impl<'a> Pick<'a> {
     }
 
     fn settle(&mut self) -> Call {
+        let due = self.due();
         Call::Settle {
-            run: 1 + self.random.below(2) as u64,
+            run: due.unwrap_or_else(|| 1 + self.random.below(2) as u64),
             day: self.day(),
+        }
+    }
+
+    /// The run that is not settled although its deadline has passed, in a month that is to be settled.
+    fn due(&self) -> Option<u64> {
+        let Size::Settled(_) = self.plan.size else {
+            return None;
+        };
+        let today = self.month.day.max(self.planned);
+        match self.month.settled {
+            [false, _] if today > self.month.clearing => Some(1),
+            [true, false] if today > self.month.correction => Some(2),
+            _ => None,
         }
     }
 }

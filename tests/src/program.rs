@@ -1,4 +1,4 @@
-//! The desk program: what it prints by document 01, worked out by the plain desk, and a run of the program itself.
+//! The desk program: what it prints by documents 01 and 02, worked out by the plain desk, and a run of the program itself.
 
 use crate::call::Lengths;
 use crate::message::MOST_ENERGIES;
@@ -36,14 +36,18 @@ pub fn run(file: &[u8]) -> replay::Run {
     replay::run(read_part(file), STORES, &mut [0; MOST_ENERGIES], usize::MAX)
 }
 
-/// What the program prints of a run: a line for each call; then the refusal or, if open, the figures of both runs.
+/// What the program prints of a run: a line for each call; then the refusal or, if open, the figures of both runs, and
+/// behind them the selected versions of both.
 pub fn printed(run: &replay::Run) -> String {
     let mut lines = Vec::new();
     for ((_, answer), number) in run.answered.iter().zip(1..) {
         lines.push(format!("{number} {answer}"));
     }
     match (run.ending, run.desk.month()) {
-        (Ending::End(_), Some(month)) => lines.extend(figure_lines(&month)),
+        (Ending::End(_), Some(month)) => {
+            lines.extend(figure_lines(&month));
+            lines.extend(selection_lines(&month));
+        }
         (Ending::End(_), None) => {}
         (ending, _) => lines.push(format!("F {} {}", ending.number(), ending.offset())),
     }
@@ -70,6 +74,18 @@ fn figure_lines(month: &Month) -> Vec<String> {
                 sum += figure;
             }
             lines.push(format!("T {run} {quarter} {sum}"));
+        }
+    }
+    lines
+}
+
+/// For each run the points with a selected version, each with the version and its status.
+fn selection_lines(month: &Month) -> Vec<String> {
+    let mut lines = Vec::new();
+    for run in 1..=2 {
+        for (point, _, version) in month.selected(run) {
+            let (number, status) = (version.number, version.status);
+            lines.push(format!("S {run} {point} {number} {status}"));
         }
     }
     lines

@@ -11,8 +11,12 @@ use crate::script::Stores;
 /// them, the day, whether run 1 and run 2 are settled.
 pub const REPORT: usize = 10;
 
-/// Places of the points, seven each: active, since, kind, area, partner, the version of run 1, the version of run 2.
-pub const POINTS: usize = 7 * 256;
+/// Places of a point: active, since, kind, area, partner, the version of run 1, that of run 2, the status of run 1's
+/// version, that of run 2's.
+pub const POINT: usize = 9;
+
+/// Places of all points.
+pub const POINTS: usize = POINT * 256;
 
 /// Places of the versions, four each: point, number, status, row of values.
 pub const VERSIONS: usize = 4 * 512;
@@ -221,17 +225,20 @@ fn points_of(run: &Run) -> Vec<u64> {
     let mut places = vec![0; POINTS];
     let month = run.desk.month();
     for (number, point) in month.iter().flat_map(|month| &month.points) {
-        let selected = |run| point.selected(run).map_or(0, |version| version.number);
-        let told = [
+        let version = |run| point.selected(run).map_or(0, |version| version.number);
+        let status = |run| point.selected(run).map_or(0, |version| version.status);
+        let told: [u64; POINT] = [
             1,
             point.since,
             point.kind,
             point.area,
             point.partner,
-            selected(1),
-            selected(2),
+            version(1),
+            version(2),
+            status(1),
+            status(2),
         ];
-        places[7 * (*number as usize - 1)..][..7].copy_from_slice(&told);
+        places[POINT * (*number as usize - 1)..][..POINT].copy_from_slice(&told);
     }
     places
 }

@@ -56,7 +56,7 @@ impl Point {
         self.highest(if run == 1 { [2, 3] } else { [4, 5] })
     }
 
-    /// The version that a run selects: its own, and for run 2 without one what run 1 selects.
+    /// The version that a run selects, with its status: its own, and for run 2 without one what run 1 selects.
     pub fn selected(&self, run: u64) -> Option<&Version> {
         self.own(run).or(self.own(1))
     }
@@ -242,20 +242,20 @@ impl<'a> Month<'a> {
         sides.concat()
     }
 
-    /// The points with their selected series in a run.
-    fn selected(&self, run: u64) -> impl Iterator<Item = (&Point, &[u64])> {
-        let points = self.points.values();
-        points.filter_map(move |point| Some((point, self.rows[point.selected(run)?.row])))
+    /// The points with a selected version in a run, by their numbers rising, each with the version and so its status.
+    pub fn selected(&self, run: u64) -> impl Iterator<Item = (u64, &Point, &Version)> {
+        let points = self.points.iter();
+        points.filter_map(move |(&number, point)| Some((number, point, point.selected(run)?)))
     }
 
     /// The figures of a run: row k, quarter q at k × Q + q - 1.
     pub fn figures(&self, run: u64) -> Vec<i128> {
         let quarters = self.quarters as usize;
         let mut figures = vec![0; ROWS * quarters];
-        for (point, series) in self.selected(run) {
+        for (_, point, version) in self.selected(run) {
             for (row, sign) in self.rows_of(point) {
                 let row = &mut figures[row * quarters..][..quarters];
-                for (figure, &energy) in row.iter_mut().zip(series) {
+                for (figure, &energy) in row.iter_mut().zip(self.rows[version.row]) {
                     *figure += sign * signed(energy);
                 }
             }
@@ -266,9 +266,9 @@ impl<'a> Month<'a> {
     /// The outside exchange of a run, for each quarter hour.
     pub fn outside(&self, run: u64) -> Vec<i128> {
         let mut sums = vec![0; self.quarters as usize];
-        for (point, series) in self.selected(run) {
+        for (_, point, version) in self.selected(run) {
             if point.kind == 1 && point.partner == 0 {
-                for (sum, &energy) in sums.iter_mut().zip(series) {
+                for (sum, &energy) in sums.iter_mut().zip(self.rows[version.row]) {
                     *sum += signed(energy);
                 }
             }

@@ -1,7 +1,12 @@
-//! The files that document 01 writes out, and those that its decided points do.
+//! The files that document 01 writes out, and those that its decided points and document 02's lines of selected versions do.
 
+use emorizugu_tests::call::Lengths;
 use emorizugu_tests::linked;
 use emorizugu_tests::numbers::{self, ANSWER, NO_CALL};
+use emorizugu_tests::program;
+use emorizugu_tests::replay::{self, Lent, POINT, POINTS, REPORT, VERSIONS};
+use emorizugu_tests::script::Stores;
+use std::env;
 
 /// The bytes of a line of hexadecimal pairs; `XX*n` is the pair n times.
 fn bytes(line: &str) -> Vec<u8> {
@@ -240,5 +245,341 @@ fn energies_at_the_ends_written_out() {
             let number = write(4, &[1, 7, 2], &[energy as u64], &mut output, &mut length);
             assert_eq!((number, length, output), (34, [0], [0xee; 20]), "{energy}");
         }
+    }
+}
+
+/// Calls in two lists, each call a line of hexadecimal pairs, and what comes of them.
+struct Selections {
+    why: &'static str,
+    calls: [&'static [&'static str]; 2],
+    answers: &'static [u64],
+    /// The lines G and T of the desk program.
+    figures: &'static str,
+    /// Its lines S behind them.
+    selected: &'static str,
+    /// The rows of the log: day, point, run, new version.
+    log: &'static [[u64; 4]],
+}
+
+impl Selections {
+    fn file(&self) -> Vec<u8> {
+        bytes(&self.calls.concat().join(" "))
+    }
+
+    fn printed(&self) -> String {
+        let answers = self.answers.iter().zip(1..);
+        let answers: String = answers.map(|(a, call)| format!("{call} {a}\n")).collect();
+        answers + self.figures + self.selected
+    }
+}
+
+/// Q 1, F 10, C 30, K 150; delta groups T 4, area 1: 1, area 2: 2, others 3.
+const OPEN: &str = "01 01 0A 1E 96 01 04 01 02 03*14";
+
+/// The same for two quarter hours.
+const OPEN_2: &str = "01 02 0A 1E 96 01 04 01 02 03*14";
+
+/// Point 1, exchange of area 1 with the outside.
+const POINT_1: &str = "02 01 01 01 00 00";
+
+/// Point 2, sum of group 5 in area 1.
+const POINT_2: &str = "02 02 02 01 05 00";
+
+/// Version 1 of point 1, 5 Wh, on day 2; version 2, 6 Wh, on day 3.
+const BY_FIRST: [&str; 4] = [OPEN, POINT_1, "04 01 01 02 01 0A", "04 01 02 03 01 0C"];
+
+/// Versions 1 and 2 of point 1, 5 and 6 Wh, both on day 11.
+const AFTER_FIRST: [&str; 4] = [OPEN, POINT_1, "04 01 01 0B 01 0A", "04 01 02 0B 01 0C"];
+
+/// Version 7 of point 1, 1,000 Wh, and version 1 of point 2, 10 Wh, on day 2; version 2 of point 2, 20 Wh, on day 11, with a
+/// positive notice on day 31.
+const CORRECTED: [&str; 7] = [
+    OPEN,
+    POINT_1,
+    POINT_2,
+    "04 01 07 02 01 D0 0F",
+    "04 02 01 02 01 14",
+    "04 02 02 0B 01 28",
+    "05 02 02 01 1F",
+];
+
+const CORRECTED_FIGURES: &str =
+    "G 1 1 1 990\nG 1 1 5 10\nT 1 1 1000\nG 2 1 1 980\nG 2 1 5 20\nT 2 1 1000\n";
+
+const CORRECTED_LOG: [[u64; 4]; 3] = [[2, 1, 1, 7], [2, 2, 1, 1], [31, 2, 2, 2]];
+
+const SETTLE_1: &str = "07 01 1F";
+const SETTLE_2: &str = "07 02 97 01";
+
+/// Document 02: "After the T lines the desk program prints `S run point version status`, runs rising, then points rising, for
+/// points with a selection."
+const SELECTIONS: [Selections; 15] = [
+    Selections {
+        why: "the case of document 01",
+        calls: [&[EXAMPLE], &[]],
+        answers: &[0, 0, 0, 14],
+        figures: "G 1 1 1 1000\nT 1 1 1000\nG 2 1 1 1000\nT 2 1 1000\n",
+        selected: "S 1 1 7 2\nS 2 1 7 2\n",
+        log: &[[2, 1, 1, 7]],
+    },
+    Selections {
+        why: "behind all lines T of both runs",
+        calls: [&[OPEN_2, POINT_1], &["04 01 07 02 02 0A 05"]],
+        answers: &[0; 3],
+        figures: "G 1 1 1 5\nT 1 1 5\nG 1 2 1 -3\nT 1 2 -3\nG 2 1 1 5\nT 2 1 5\nG 2 2 1 -3\nT 2 2 -3\n",
+        selected: "S 1 1 7 2\nS 2 1 7 2\n",
+        log: &[[2, 1, 1, 7]],
+    },
+    Selections {
+        why: "run 2's own has 4, above run 1's with 2; point 1 is as in run 1",
+        calls: [&CORRECTED, &[]],
+        answers: &[0; 7],
+        figures: CORRECTED_FIGURES,
+        selected: "S 1 1 7 2\nS 1 2 1 2\nS 2 1 7 2\nS 2 2 2 4\n",
+        log: &CORRECTED_LOG,
+    },
+    Selections {
+        why: "run 1 settled: 3, in run 2 too where it has no own; no row of the log",
+        calls: [&CORRECTED, &[SETTLE_1]],
+        answers: &[0; 8],
+        figures: CORRECTED_FIGURES,
+        selected: "S 1 1 7 3\nS 1 2 1 3\nS 2 1 7 3\nS 2 2 2 4\n",
+        log: &CORRECTED_LOG,
+    },
+    Selections {
+        why: "both runs settled: 5 for run 2's own alone; no row of the log",
+        calls: [&CORRECTED, &[SETTLE_1, SETTLE_2]],
+        answers: &[0; 9],
+        figures: CORRECTED_FIGURES,
+        selected: "S 1 1 7 3\nS 1 2 1 3\nS 2 1 7 3\nS 2 2 2 5\n",
+        log: &CORRECTED_LOG,
+    },
+    Selections {
+        why: "run 1 settled behind K: run 2's own keeps 4",
+        calls: [&CORRECTED, &["07 01 97 01"]],
+        answers: &[0; 8],
+        figures: CORRECTED_FIGURES,
+        selected: "S 1 1 7 3\nS 1 2 1 3\nS 2 1 7 3\nS 2 2 2 4\n",
+        log: &CORRECTED_LOG,
+    },
+    Selections {
+        why: "refused settles, on a day that has passed, too early, and of run 2 before run 1",
+        calls: [&CORRECTED, &["07 01 1E", "07 02 1F", SETTLE_2]],
+        answers: &[0, 0, 0, 0, 0, 0, 0, 5, 27, 29],
+        figures: CORRECTED_FIGURES,
+        selected: "S 1 1 7 2\nS 1 2 1 2\nS 2 1 7 2\nS 2 2 2 4\n",
+        log: &CORRECTED_LOG,
+    },
+    Selections {
+        why: "the version below keeps 2, and it is not the selected one",
+        calls: [&BY_FIRST, &[SETTLE_1]],
+        answers: &[0; 5],
+        figures: "G 1 1 1 6\nT 1 1 6\nG 2 1 1 6\nT 2 1 6\n",
+        selected: "S 1 1 2 3\nS 2 1 2 3\n",
+        log: &[[2, 1, 1, 1], [3, 1, 1, 2]],
+    },
+    Selections {
+        why: "check data above the selected version; points with check data alone or no version have no line",
+        calls: [
+            &[OPEN, POINT_1, POINT_2, "02 03 03 01 00 00"],
+            &["04 01 01 02 01 0A", "04 01 02 0B 01 0C", "04 02 01 0B 01 0E"],
+        ],
+        answers: &[0; 7],
+        figures: "G 1 1 1 5\nT 1 1 5\nG 2 1 1 5\nT 2 1 5\n",
+        selected: "S 1 1 1 2\nS 2 1 1 2\n",
+        log: &[[2, 1, 1, 1]],
+    },
+    Selections {
+        why: "no version is selected after a negative notice",
+        calls: [&AFTER_FIRST, &["05 01 02 00 0C"]],
+        answers: &[0; 5],
+        figures: "T 1 1 0\nT 2 1 0\n",
+        selected: "",
+        log: &[],
+    },
+    Selections {
+        why: "run 2's own below what run 1 selects",
+        calls: [&AFTER_FIRST, &["05 01 02 01 1E", "05 01 01 01 1F", SETTLE_1]],
+        answers: &[0; 7],
+        figures: "G 1 1 1 6\nT 1 1 6\nG 2 1 1 5\nT 2 1 5\n",
+        selected: "S 1 1 2 3\nS 2 1 1 4\n",
+        log: &[[30, 1, 1, 2], [31, 1, 2, 1]],
+    },
+    Selections {
+        why: "run 2's own, and none in run 1",
+        calls: [&AFTER_FIRST, &["05 01 02 01 1F"]],
+        answers: &[0; 5],
+        figures: "T 1 1 0\nG 2 1 1 6\nT 2 1 6\n",
+        selected: "S 2 1 2 4\n",
+        log: &[[31, 1, 2, 2]],
+    },
+    Selections {
+        why: "a version submitted after the settle is check data",
+        calls: [&BY_FIRST, &[SETTLE_1, "04 01 03 20 01 0E"]],
+        answers: &[0; 6],
+        figures: "G 1 1 1 6\nT 1 1 6\nG 2 1 1 6\nT 2 1 6\n",
+        selected: "S 1 1 2 3\nS 2 1 2 3\n",
+        log: &[[2, 1, 1, 1], [3, 1, 1, 2]],
+    },
+    Selections {
+        why: "and becomes run 2's own",
+        calls: [&BY_FIRST, &[SETTLE_1, "04 01 03 20 01 0E", "05 01 03 01 21"]],
+        answers: &[0; 7],
+        figures: "G 1 1 1 6\nT 1 1 6\nG 2 1 1 7\nT 2 1 7\n",
+        selected: "S 1 1 2 3\nS 2 1 3 4\n",
+        log: &[[2, 1, 1, 1], [3, 1, 1, 2], [33, 1, 2, 3]],
+    },
+    Selections {
+        why: "points rise by their numbers, whatever the order of their calls; the last point and version",
+        calls: [
+            &[
+                OPEN,
+                "02 80 02 01 10 00 00",
+                "02 0A 01 02 00 00",
+                "02 09 01 01 00 00",
+            ],
+            &[
+                "04 80 02 FF FF E8 83 B1 DE 16 02 01 02",
+                "04 0A 03 02 01 04",
+                "04 09 05 02 01 06",
+            ],
+        ],
+        answers: &[0; 7],
+        figures: "G 1 1 1 3\nG 1 1 2 2\nG 1 1 3 1\nT 1 1 6\nG 2 1 1 3\nG 2 1 2 2\nG 2 1 3 1\nT 2 1 6\n",
+        selected: "S 1 9 5 2\nS 1 10 3 2\nS 1 256 99999999999999 2\nS 2 9 5 2\nS 2 10 3 2\nS 2 256 99999999999999 2\n",
+        log: &[
+            [2, 256, 1, 99_999_999_999_999],
+            [2, 10, 1, 3],
+            [2, 9, 1, 5],
+        ],
+    },
+];
+
+/// Files without a line S: refused ones, and those of a desk that is not open or has no version.
+const NONE_SELECTED: [(&str, &str); 5] = [
+    ("07 01 1F", "1 1\n"),
+    (OPEN, "1 0\nT 1 1 0\nT 2 1 0\n"),
+    (
+        "01 09 0A 1E 96 01 04 01 02 03*14  02 01 01 01 00 00  04 01 07 02 01 D0 0F",
+        "1 4\n2 1\n3 1\n",
+    ),
+    (
+        "01 01 0A 1E 96 01 04 01 02 03*14  02 01 01 01 00 00  04 01 07 02 01 D0 0F  80 00",
+        "1 0\n2 0\n3 0\nF 32 36\n",
+    ),
+    (
+        "01 01 0A 1E 96 01 04 01 02 03*14  02 01 01 01 00 00  04 01 07 02 01 D0 0F  04 01 07",
+        "1 0\n2 0\n3 0\nF 31 36\n",
+    ),
+];
+
+/// What a replay is lent, with a log of so many rows.
+fn lent(rows: usize) -> Lent {
+    let lengths = Lengths {
+        values: 16,
+        book: 324,
+        log: 4 * rows as u64,
+    };
+    Lent::filled(lengths, 2, 16, [REPORT, POINTS, VERSIONS], 19)
+}
+
+fn plain_replay(file: &[u8], lent: &mut Lent) {
+    replay::replay(file, lent).expect("tables with their places");
+}
+
+fn linked_replay(file: &[u8], lent: &mut Lent) {
+    let Stores { values, book, log } = &mut lent.stores;
+    let [report, points, versions] = &mut lent.tables;
+    let (series, answers) = (&mut lent.series, &mut lent.answers);
+    linked::replay(
+        file,
+        values,
+        book,
+        log,
+        series,
+        answers,
+        [report, points, versions],
+    );
+}
+
+/// The versions that a table of points tells, as the desk program prints them.
+fn told(points: &[u64]) -> String {
+    let mut text = String::new();
+    for run in 1..=2 {
+        for (point, places) in (1..).zip(points.chunks(POINT)) {
+            let (version, status) = (places[4 + run], places[6 + run]);
+            assert_eq!(version == 0, status == 0, "both or none");
+            if version != 0 {
+                text += &format!("S {run} {point} {version} {status}\n");
+            }
+        }
+    }
+    text
+}
+
+#[test]
+fn the_plain_desk_prints_the_selected_versions() {
+    for case in &SELECTIONS {
+        let printed = program::printed(&program::run(&case.file()));
+        assert_eq!(printed, case.printed(), "{}", case.why);
+    }
+    for (file, printed) in NONE_SELECTED {
+        assert_eq!(program::printed(&program::run(&bytes(file))), printed);
+    }
+}
+
+/// A replay's answers, the versions that it tells, and the rows of a log that has some rows left at the end.
+fn compare_replay(case: &Selections, replay: fn(&[u8], &mut Lent), left: usize) {
+    let used = case.log.len();
+    let mut lent = lent(used + left);
+    let mut log = lent.stores.log.clone();
+    log[..4 * used].copy_from_slice(&case.log.concat());
+    replay(&case.file(), &mut lent);
+    let [report, points, _] = &lent.tables;
+    let answers = &lent.answers[..case.answers.len()];
+    assert_eq!(answers, case.answers, "{}", case.why);
+    assert_eq!(told(points), case.selected, "{}", case.why);
+    let logged = (report[3], lent.stores.log);
+    assert_eq!(logged, (used as u64, log), "{}", case.why);
+}
+
+/// A settle takes no row of the log: it is accepted where none is left.
+#[test]
+fn a_replay_tells_the_selected_versions() {
+    for case in &SELECTIONS {
+        for left in [0, 2] {
+            compare_replay(case, plain_replay, left);
+            compare_replay(case, linked_replay, left);
+        }
+    }
+}
+
+/// Of a refused file a replay tells what it came to, although the program prints nothing of it.
+#[test]
+fn a_replay_tells_the_selected_versions_of_a_refused_file() {
+    let example = "S 1 1 7 2\nS 2 1 7 2\n";
+    let selected = ["", "", "", example, example];
+    for ((file, _), selected) in NONE_SELECTED.into_iter().zip(selected) {
+        for replay in [plain_replay, linked_replay] {
+            let mut lent = lent(1);
+            replay(&bytes(file), &mut lent);
+            assert_eq!(told(&lent.tables[1]), selected, "{file}");
+        }
+    }
+}
+
+#[test]
+#[ignore = "EMORIZUGU_PROGRAM names the desk program"]
+fn the_program_prints_the_selected_versions() {
+    let named = env::var_os("EMORIZUGU_PROGRAM").expect("EMORIZUGU_PROGRAM");
+    let printed = |file: &[u8]| {
+        let output = program::output(&named, file, file.len()).expect("a program that runs");
+        String::from_utf8(output.stdout).expect("text")
+    };
+    for case in &SELECTIONS {
+        assert_eq!(printed(&case.file()), case.printed(), "{}", case.why);
+    }
+    for (file, text) in NONE_SELECTED {
+        assert_eq!(printed(&bytes(file)), text);
     }
 }

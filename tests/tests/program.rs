@@ -1,11 +1,12 @@
-//! The desk program: files through its standard input, and what it prints against what document 01 says, worked out
-//! by the plain desk.
+//! The desk program: files through its standard input, and what it prints against what documents 01 and 02 say, worked
+//! out by the plain desk.
 //!
 //! `EMORIZUGU_PROGRAM` names the program; `tests/run` always sets it. Without it the tests of the program are left
 //! out (`cargo test` says so of each), and fail where they are asked for.
 
 use emorizugu_tests::call::Call;
 use emorizugu_tests::compare::shortest_list;
+use emorizugu_tests::counts;
 use emorizugu_tests::desk::MOST_VERSIONS;
 use emorizugu_tests::files::{self, Parts};
 use emorizugu_tests::generator::{Random, Shape};
@@ -14,17 +15,21 @@ use emorizugu_tests::months::{self, Size};
 use emorizugu_tests::program::{self, MOST_BYTES, MOST_QUARTERS};
 use emorizugu_tests::replay::{Ending, Run};
 use emorizugu_tests::tally::Tally;
+use emorizugu_tests::worked::Month;
 use std::env;
 use std::ffi::OsString;
 
 /// Files of at most some thousand bytes.
-const FILES: u64 = 2_400;
+const FILES: u64 = 3_000;
 
 /// Files about as long as the program reads, and longer.
 const LONG: u64 = 200;
 
 /// How often each ending and each case is to have been compared at least.
 const LEAST: u64 = 50;
+
+/// How often each status of a selected version is to have been compared at least.
+const LEAST_STATUS: u64 = 300;
 
 /// The program that `EMORIZUGU_PROGRAM` names.
 fn named_program() -> OsString {
@@ -108,6 +113,13 @@ impl Case {
     }
 }
 
+/// How many lines of a run's output tell a selected version.
+fn selections_printed(run: &Run) -> usize {
+    let printed = program::printed(run);
+    let lines = printed.lines().filter(|line| line.starts_with("S "));
+    lines.count()
+}
+
 fn count(run: &Run, tally: &mut Tally) {
     let number = run.ending.number();
     tally.add("program", number);
@@ -119,17 +131,30 @@ fn count(run: &Run, tally: &mut Tally) {
             tally.add("opening of more than 8", *answer);
         }
     }
+    let printed = selections_printed(run);
     let Some(month) = run.desk.month() else {
         tally.add("never opened", number);
+        assert_eq!(printed, 0);
         return;
     };
     tally.add("quarter hours opened", month.quarters);
     if month.rows.len() == MOST_VERSIONS {
         tally.add("512 versions held", number);
     }
+    let selected: usize = (1..=2).map(|run| month.selected(run).count()).sum();
     let Ending::End(_) = run.ending else {
+        assert_eq!(printed, 0);
+        if selected > 0 {
+            tally.add("selected, and not printed", number);
+        }
         return;
     };
+    assert_eq!(printed, selected);
+    counts::count_selected(tally, &month);
+    count_figures(&month, tally);
+}
+
+fn count_figures(month: &Month, tally: &mut Tally) {
     tally.add("figures printed, quarter hours", month.quarters);
     for run in 1..=2 {
         let figures = month.figures(run);
@@ -168,12 +193,13 @@ fn quarters(random: &mut Random) -> u64 {
 
 #[test]
 #[ignore = "EMORIZUGU_PROGRAM names the desk program"]
-fn the_program_prints_what_document_01_says() {
+fn the_program_prints_what_the_documents_say() {
     let program = named_program();
     let (mut random, mut tally) = (Random::new(15), Tally::new());
     for _ in 0..FILES {
         let size = match random.below(200) {
             0 => Size::Versions,
+            1..=100 => Size::Settled(quarters(&mut random)),
             _ => Size::Quarters(quarters(&mut random)),
         };
         let month = months::month(&mut random, size);
@@ -208,6 +234,13 @@ fn the_program_prints_what_document_01_says() {
         tally.demand(what, &[1, 2], LEAST);
     }
     tally.demand("figures of run 2 of its own", &[2], LEAST);
+    tally.demand("selected, and not printed", &[31, 32, 33, 34], LEAST);
+    for (what, statuses) in counts::STATUSES {
+        tally.demand(what, statuses, LEAST_STATUS);
+    }
+    for (what, numbers) in counts::SELECTIONS {
+        tally.demand(what, numbers, LEAST);
+    }
     for (_, name, _) in Shape::ALL {
         assert!(tally.all(name) >= 20, "{name}");
     }
@@ -260,8 +293,31 @@ fn the_program_reads_the_first_65_536_bytes() {
     assert!(figures >= 20, "figures of {figures} files");
 }
 
-/// Document 01's own input and output.
-const PRINTED: &str = "1 0\n2 0\n3 0\n4 14\nG 1 1 1 1000\nT 1 1 1000\nG 2 1 1 1000\nT 2 1 1000\n";
+/// The month of the most points and versions, before and after each settle.
+#[test]
+#[ignore = "EMORIZUGU_PROGRAM names the desk program"]
+fn the_program_prints_the_selected_versions_of_256_points() {
+    let program = named_program();
+    let (mut random, mut tally) = (Random::new(17), Tally::new());
+    let calls = files::full_month();
+    for settles in 0..=2 {
+        let parts = files::whole(&calls[..calls.len() - 2 + settles]);
+        assert!(parts.concat().len() <= MOST_BYTES);
+        let run = Case::new(&mut random, parts).compare(&program);
+        assert!(run.answered.iter().all(|(_, answer)| *answer == 0));
+        count(&run, &mut tally);
+    }
+    tally.print();
+    for (what, statuses) in counts::STATUSES {
+        tally.demand(what, statuses, 128);
+    }
+    assert_eq!(tally.all("selected by run 1"), 3 * 256);
+    assert_eq!(tally.all("selected by run 2, its own"), 3 * 128);
+    assert_eq!(tally.all("selected by run 2, as by run 1"), 3 * 128);
+}
+
+/// Document 01's own input and output, with the lines of document 02.
+const PRINTED: &str = "1 0\n2 0\n3 0\n4 14\nG 1 1 1 1000\nT 1 1 1000\nG 2 1 1 1000\nT 2 1 1000\nS 1 1 7 2\nS 2 1 7 2\n";
 
 fn example() -> Vec<u8> {
     let open = [1, 1, 10, 30, 0x96, 1, 4, 1, 2];

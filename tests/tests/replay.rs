@@ -3,6 +3,7 @@
 
 use emorizugu_tests::call::{Call, Lengths};
 use emorizugu_tests::compare::shortest_list;
+use emorizugu_tests::counts;
 use emorizugu_tests::desk::{Desk, MOST_VERSIONS};
 use emorizugu_tests::files::{self, Parts};
 use emorizugu_tests::generator::{Random, Shape};
@@ -20,6 +21,9 @@ const FILES: u64 = 8_000;
 
 /// How often each ending and each case is to have been compared at least.
 const LEAST: u64 = 100;
+
+/// How often each status of a selected version is to have been compared at least.
+const LEAST_STATUS: u64 = 500;
 
 /// Words on both sides of a lent store.
 const FENCE: [u64; 4] = [0x5eed_5eed_5eed_5eed; 4];
@@ -194,6 +198,12 @@ impl Case {
         tally.add("versions held, up to 9", month.rows.len().min(9) as u64);
         let odd = month.lengths.values % month.quarters;
         tally.add("places of values beyond the rows", odd);
+        counts::count_selected(tally, &month);
+        for run in 1..=2 {
+            for _ in month.points.values().filter(|p| p.selected(run).is_none()) {
+                tally.add("active, and no version selected", run);
+            }
+        }
     }
 
     /// How many answers there was room for.
@@ -325,7 +335,11 @@ fn files_of_months_agree() {
     let (mut random, mut tally) = (Random::new(11), Tally::new());
     for _ in 0..FILES {
         let quarters = random.of(&[1, 1, 1, 2, 2, 3, 4, 8]);
-        let (case, shape) = case(&mut random, Size::Quarters(quarters));
+        let size = match random.below(3) {
+            0 => Size::Settled(quarters),
+            _ => Size::Quarters(quarters),
+        };
+        let (case, shape) = case(&mut random, size);
         if let Some(run) = case.compare(&mut tally) {
             tally.add(shape.name(), run.ending.number());
         }
@@ -339,7 +353,7 @@ fn files_of_months_agree() {
     tally.demand("the answers are full", &[35], LEAST);
     tally.demand("as the file's verdict", &[0, 31, 32, 33, 34], LEAST);
     tally.demand("report's places", &[0, 9, 10, 14], LEAST);
-    tally.demand("points' places", &[0, 1_791, 1_792, 1_795], LEAST);
+    tally.demand("points' places", &[0, 2_303, 2_304, 2_307], LEAST);
     tally.demand("versions' places", &[0, 2_047, 2_048, 2_053], LEAST);
     tally.demand("series buffer", &[0, 1, 2, 3, 4, 5, 7, 8, 9, 2_980], 20);
     for (call, answers) in ANSWERS {
@@ -368,6 +382,13 @@ fn files_of_months_agree() {
         &[0, 1, 2, 3, 4, 5, 6, 7, 8, 9],
         50,
     );
+    for (what, statuses) in counts::STATUSES {
+        tally.demand(what, statuses, LEAST_STATUS);
+    }
+    for (what, numbers) in counts::SELECTIONS {
+        tally.demand(what, numbers, 50);
+    }
+    tally.demand("active, and no version selected", &[1, 2], LEAST_STATUS);
     tally.demand("room for no answer", &[0, 35], 20);
     tally.demand("room for one answer too few", &[35], LEAST);
     for what in ["room for as many answers", "room for more answers"] {
@@ -405,6 +426,35 @@ fn long_files_agree() {
     let quarters = [9, 96, 2_879, 2_979, 2_980];
     for quarters in quarters {
         assert!(tally.count("quarter hours opened", quarters) >= 1);
+    }
+}
+
+/// The month of the most points and versions, before and after each settle.
+#[test]
+fn full_tables_agree() {
+    let (calls, mut tally) = (files::full_month(), Tally::new());
+    for settles in 0..=2 {
+        let case = Case {
+            parts: files::whole(&calls[..calls.len() - 2 + settles]),
+            lengths: Lengths {
+                values: 8 * MOST_VERSIONS as u64,
+                book: 8 * BOOK_ROWS,
+                log: 4 * 384,
+            },
+            series: 8,
+            answers: calls.len(),
+            tables: TABLES,
+            seed: 18,
+        };
+        let run = case.compare(&mut tally).expect("a replay");
+        assert!(run.answered.iter().all(|(_, answer)| *answer == 0));
+        let month = run.desk.month().expect("an open desk");
+        assert_eq!((month.points.len(), month.rows.len()), (256, MOST_VERSIONS));
+        assert_eq!(month.log.len(), 384, "no row by a settle");
+    }
+    tally.print();
+    for (what, statuses) in counts::STATUSES {
+        tally.demand(what, statuses, 128);
     }
 }
 
@@ -544,7 +594,7 @@ fn the_example_leaves_what_document_01_says() {
     let [report, points, versions] = &mut after.tables;
     report[..REPORT].copy_from_slice(&[4, 43, 1, 1, 1, 1, 4, 2, 0, 0]);
     points.fill(0);
-    points[..7].copy_from_slice(&[1, 0, 1, 1, 0, 7, 7]);
+    points[..9].copy_from_slice(&[1, 0, 1, 1, 0, 7, 7, 2, 2]);
     versions[..4].copy_from_slice(&[1, 7, 2, 0]);
     let (mut plain, file) = (before, case.file());
     let run = replay::replay(&file, &mut plain);

@@ -1,4 +1,5 @@
-//! The plain desk alone against document 01: its sample month, its example, its traps and its decided points.
+//! The plain desk alone against document 01: its sample month, its example, its traps and its decided points; and the status
+//! that comes with a selected version by document 02.
 
 use emorizugu_tests::call::{Call, Lengths};
 use emorizugu_tests::desk::{Answer, Desk};
@@ -93,6 +94,13 @@ fn totals(desk: &Desk, run: u64) -> Vec<i128> {
     totals
 }
 
+/// The versions that both runs select at a point, each with its status.
+fn selected(desk: &Desk, point: u64) -> [Option<(u64, u64)>; 2] {
+    let month = desk.month().expect("an open desk");
+    let point = &month.points[&point];
+    [1, 2].map(|run| point.selected(run).map(|v| (v.number, v.status)))
+}
+
 fn status(desk: &mut Desk, point: u64, version: u64) -> Answer {
     lent(desk, &[8, point, version], LENT)
 }
@@ -160,7 +168,7 @@ fn p9_to_p11_refusals() {
     }
 }
 
-/// "Hexadecimal input" and "Output" of document 01.
+/// "Hexadecimal input" and "Output" of document 01, with the lines that the case gains by document 02.
 #[test]
 fn the_example_has_the_documents_output() {
     let mut file = vec![0x01, 0x01, 0x0a, 0x1e, 0x96, 0x01, 0x04, 0x01, 0x02];
@@ -169,7 +177,9 @@ fn the_example_has_the_documents_output() {
     for _ in 0..2 {
         file.extend([0x04, 0x01, 0x07, 0x02, 0x01, 0xd0, 0x0f]);
     }
-    let output = "1 0\n2 0\n3 0\n4 14\nG 1 1 1 1000\nT 1 1 1000\nG 2 1 1 1000\nT 2 1 1000\n";
+    let figures = "G 1 1 1 1000\nT 1 1 1000\nG 2 1 1 1000\nT 2 1 1000\n";
+    let selected = "S 1 1 7 2\nS 2 1 7 2\n";
+    let output = format!("1 0\n2 0\n3 0\n4 14\n{figures}{selected}");
     assert_eq!(program(&file), output);
 }
 
@@ -209,6 +219,13 @@ fn program(file: &[u8]) -> String {
             }
             let sum = totals(&desk, run)[quarter - 1];
             text += &format!("T {run} {quarter} {sum}\n");
+        }
+    }
+    for run in 1..=2 {
+        for point in desk.month().iter().flat_map(|month| month.points.keys()) {
+            if let Some((version, status)) = selected(&desk, *point)[run - 1] {
+                text += &format!("S {run} {point} {version} {status}\n");
+            }
         }
     }
     text
@@ -252,9 +269,12 @@ fn run_2_selects_its_own_or_what_run_1_selects() {
     for call in [[4, 1, 1, 11, 10, 10], [4, 1, 2, 11, 20, 20]] {
         assert_eq!(give(&mut desk, &call), 0);
     }
+    assert_eq!(selected(&desk, 1), [None, None], "check data");
     assert_eq!(give(&mut desk, &[5, 1, 2, 1, 30]), 0);
     assert_eq!(row(&desk, 2, 65), [20, 20]);
+    assert_eq!(selected(&desk, 1), [Some((2, 2)), Some((2, 2))]);
     assert_eq!(give(&mut desk, &[5, 1, 1, 1, 31]), 0);
+    assert_eq!(selected(&desk, 1), [Some((2, 2)), Some((1, 4))]);
     assert_eq!(status(&mut desk, 1, 1), Answer::Status(4));
     assert_eq!(row(&desk, 1, 65), [20, 20]);
     assert_eq!(row(&desk, 2, 65), [10, 10]);
@@ -263,8 +283,10 @@ fn run_2_selects_its_own_or_what_run_1_selects() {
     assert_eq!(give(&mut desk, &[9, 1, 31]), 0);
     assert_eq!(status(&mut desk, 1, 2), Answer::Status(3));
     assert_eq!(status(&mut desk, 1, 1), Answer::Status(4));
+    assert_eq!(selected(&desk, 1), [Some((2, 3)), Some((1, 4))]);
     assert_eq!(give(&mut desk, &[9, 2, 151]), 0);
     assert_eq!(status(&mut desk, 1, 1), Answer::Status(5));
+    assert_eq!(selected(&desk, 1), [Some((2, 3)), Some((1, 5))]);
     assert_eq!(desk.month().expect("an open desk").log, log);
 }
 

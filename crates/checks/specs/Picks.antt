@@ -4,7 +4,8 @@ use mathlib.Core.Path.{_≡_}
 use mathlib.Core.List.{List}
 use lib.ListN.{length, getD}
 use Rattle.quantity.specs.Limits.{points}
-use Rattle.state.specs.Selection.{raiseIf, isCounted, own}
+use Rattle.state.specs.Selection.{raiseIf, isCounted, own, inRun}
+use Rattle.state.specs.declared.Selection.{Selection}
 use Rattle.state.specs.declared.Selection.the-variants.{None}
 use Rattle.state.specs.declared.VersionRecord.{VersionRecord}
 use Rattle.checks.specs.declared.PointPicks.{PointPicks}
@@ -25,3 +26,7 @@ picksStep p s i v = record { first = raiseIf (isCounted 1 p) (s .first) i v; sec
 pub record PicksIn (vs : List VersionRecord) (t : List PointPicks) : Type 0 where
   pub size : length t ≡ points
   pub each : (i : ℕ) → i < points → getD t i noPicks ≡ picksAt (suc i) vs
+
+-- what a run selects of the point, by its picks
+abbrev pub selectedIn : (run : ℕ) → PointPicks → Selection
+selectedIn run k = inRun run (k .first) (k .second)

@@ -9,12 +9,13 @@ use quantity::limits::point_ok;
 use state::Selection;
 use state::VersionRecord;
 use state::selections::is_counted;
+use state::selections::or_else;
 use state::selections::raised_if;
 use state::selections::row_at;
 ghost use mathlib.Core.Path.{_≡_};
 ghost use lib.ListN.{take, replicate};
 ghost use Rattle.quantity.specs.Limits.{points};
-ghost use Rattle.checks.specs.Picks.{noPicks, picksStep, PicksIn};
+ghost use Rattle.checks.specs.Picks.{noPicks, picksStep, PicksIn, selectedIn};
 
 // Of no record.
 fn no_picks() -> [PointPicks; POINTS as usize]
@@ -65,4 +66,16 @@ pub fn picks_of(
         }
     }
     picks
+}
+
+// What a run selects of the point.
+pub fn selected_in(p: PointPicks, run: u64) -> Selection
+    ensures { λ r. ⌜ r ≡ selectedIn run p ⌝ }
+{
+    let first = p.first;
+    if run == 1 {
+        return first;
+    }
+    let second = p.second;
+    or_else(second, first)
 }

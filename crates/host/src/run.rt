@@ -88,7 +88,7 @@ fn put_report(
 }
 
 // 0, or the number of the first refusal; 35 where the answers are full; 2, and nothing is done, where a report, the points or the versions have fewer
-// places than ten, 1,792 and 2,048. The report tells the calls answered, the offset, Q, the log rows used, the versions held, the calls
+// places than ten, 2,304 and 2,048. The report tells the calls answered, the offset, Q, the log rows used, the versions held, the calls
 // refused and the first of them, the day, and which runs are settled.
 #[no_mangle]
 pub extern "C" fn emorizugu_replay(

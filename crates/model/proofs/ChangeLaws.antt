@@ -16,7 +16,7 @@ use Rattle.book.specs.Place.{groupRow, rowStart}
 use Rattle.book.proofs.Places.{row-within}
 use Rattle.book.proofs.Rows.{length-part}
 use Rattle.state.specs.Change.{confirm, settle, settledBy}
-use Rattle.state.specs.Selection.{own, versionOf}
+use Rattle.state.specs.Selection.{own, withStatus, SameVersion, versionOf}
 use Rattle.state.specs.Status.{isCheck, counts, submittedStatus, confirmedStatus, settledStatus}
 use Rattle.state.specs.Valid.{openingOk, frameOk, validDesk}
 use Rattle.state.specs.Version.{recordAt, emptyVersion, newVersion, restatus, held, HeldIn}
@@ -28,7 +28,7 @@ use Rattle.state.specs.declared.Status.{Status}
 use Rattle.state.specs.declared.Status.the-variants.{Check, Settlement, Correction}
 use Rattle.state.specs.declared.VersionRecord.{VersionRecord}
 use Rattle.state.specs.declared.VersionRow.{VersionRow}
-use Rattle.state.proofs.Kept.{notice-negative, notice-other, settle-own, settle-selected}
+use Rattle.state.proofs.Kept.{notice-negative, notice-other, settle-at, settle-same, settle-selected}
 use Rattle.state.proofs.Picks.{held-right, submit-other}
 use Rattle.model.specs.Call.{Call, opens, activates, deactivates, submits, notices, assigns, shows, asks, settles, Stores, Lengths, Lent, told, telling}
 use Rattle.model.specs.Causes.{rules, notCheck, otherLengths}
@@ -76,13 +76,9 @@ notice-one w n p x d P = go (held p x (w .versions)) (past 25 (rules (viewBy w) 
 -- ---- "Run 1: each selected version gets 3. Run 2: each own one gets 5."
 
 module _ (run : ℕ) (vs : List VersionRecord) where
-  settled-at : (i : ℕ) → recordAt (settledBy run vs) i ≡ settle run vs (recordAt vs i)
-  unfolding settle
-  settled-at i = List·getD-map (settle run vs) vs i emptyVersion
-
   -- each selected one
   pub settle-picked : (p : ℕ) (r : VersionRow) → own run p vs ≡ Selected r → recordAt (settledBy run vs) (r .at) ≡ restatus (settledStatus run) (recordAt vs (r .at))
-  settle-picked p r e = settled-at (r .at) ∙ settle-selected run vs p r e
+  settle-picked p r e = settle-at run vs (r .at) ∙ settle-selected run vs p r e
 
   -- and no other: what is not counted in the run, or has not the selected one's number, stays
   pub settle-only : (i : ℕ) → (recordAt (settledBy run vs) i ≡ recordAt vs i) ⊎ ((counts run (recordAt vs i .status) ≡ true) × (recordAt vs i .version .0 ≡ versionOf (own run (recordAt vs i .point .0) vs)))
@@ -97,19 +93,19 @@ module _ (run : ℕ) (vs : List VersionRecord) where
 
       go : (t : Bool) → (counts run (v .status) && eqb (v .version .0) top) ≡ t → (recordAt (settledBy run vs) i ≡ v) ⊎ ((counts run (v .status) ≡ true) × (v .version .0 ≡ top))
       go true e = inr (and-left (counts run (v .status)) _ e, eqb-true (v .version .0) top (and-right (counts run (v .status)) _ e))
-      go false e = inl (settled-at i ∙ rw e)
+      go false e = inl (settle-at run vs i ∙ rw e)
 
 -- ---- one call never owes two log rows
 
 -- what a submission makes counts not in run 2, and what a notice makes not in both
-submitted-once : (f d : ℕ) → counts 2 (submittedStatus f d) ≡ false
+pub submitted-once : (f d : ℕ) → counts 2 (submittedStatus f d) ≡ false
 submitted-once f d = by-test (λ (s : Status). counts 2 s ≡ false) (leb d f) Settlement Check (λ _. refl) (λ _. refl)
 
 noticed-once : (c d : ℕ) → (counts 1 (confirmedStatus c d) ≡ false) ⊎ (counts 2 (confirmedStatus c d) ≡ false)
 noticed-once c d = by-test (λ (s : Status). (counts 1 s ≡ false) ⊎ (counts 2 s ≡ false)) (leb d c) Settlement Correction (λ _. inr refl) (λ _. inl refl)
 
 -- a call that changes no selection
-owes-none : (vs ws : List VersionRecord) → ((r i : ℕ) → own r i ws ≡ own r i vs) → OwesOne vs ws
+owes-none : (vs ws : List VersionRecord) → ((r i : ℕ) → SameVersion (own r i ws) (own r i vs)) → OwesOne vs ws
 owes-none vs ws e = record { point = 0; elsewhere = λ r i _. e r i; one = inl (e 1 0) }
 
 pub one-owed : (w : Worked) (n : Lengths) (c : Call) → OwesOne (w .versions) (after (telling n c) w .versions)
@@ -122,20 +118,20 @@ one-owed w n (submits p x d es) =
     let m = length (w .versions) in
     record {
       point = p;
-      elsewhere = λ r i ne. submit-other r i (newVersion f m p x d) (w .versions) (λ z. ne (sym z));
-      one = inr (own-uncounted 2 p f m p x d (w .versions) (submitted-once f d));
+      elsewhere = λ r i ne. ap (withStatus Check) (submit-other r i (newVersion f m p x d) (w .versions) (λ z. ne (sym z)));
+      one = inr (ap (withStatus Check) (own-uncounted 2 p f m p x d (w .versions) (submitted-once f d)));
     }
 one-owed w n (notices p x y d) =
     let c = w .opening .clearing .0 in
     record {
       point = p;
-      elsewhere = λ r i ne. notice-other r i c p x y d (w .versions) (λ z. ne (sym z));
-      one = ⊎-elim (λ (e : counts 1 (confirmedStatus c d) ≡ false). inl (own-unturned 1 p c p x y d (w .versions) e)) (λ (e : counts 2 (confirmedStatus c d) ≡ false). inr (own-unturned 2 p c p x y d (w .versions) e)) (noticed-once c d);
+      elsewhere = λ r i ne. ap (withStatus Check) (notice-other r i c p x y d (w .versions) (λ z. ne (sym z)));
+      one = ⊎-elim (λ (e : counts 1 (confirmedStatus c d) ≡ false). inl (ap (withStatus Check) (own-unturned 1 p c p x y d (w .versions) e))) (λ (e : counts 2 (confirmedStatus c d) ≡ false). inr (ap (withStatus Check) (own-unturned 2 p c p x y d (w .versions) e))) (noticed-once c d);
     }
 one-owed w n (assigns a g d) = owes-none (w .versions) (w .versions) (λ r i. refl)
 one-owed w n (shows r g) = owes-none (w .versions) (w .versions) (λ r i. refl)
 one-owed w n (asks p x) = owes-none (w .versions) (w .versions) (λ r i. refl)
-one-owed w n (settles r d) = owes-none (w .versions) (settledBy r (w .versions)) (λ q i. settle-own r (w .versions) q i)
+one-owed w n (settles r d) = owes-none (w .versions) (settledBy r (w .versions)) (settle-same r (w .versions))
 
 -- ---- "the part is empty exactly when the number is not 0": an accepted show's part has Q figures, on a desk in any state
 

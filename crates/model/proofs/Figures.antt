@@ -17,14 +17,15 @@ use Rattle.quantity.proofs.Lists.{all-at}
 use Rattle.quantity.proofs.Sums.{sum-same, sum-zero, sum-change, sum-swap, sum-small, sum-reads}
 use Rattle.book.specs.Place.{groupRow}
 use Rattle.state.specs.Point.{freePoint, pointAt, withPoint}
-use Rattle.state.specs.Selection.{own, selected}
+use Rattle.state.specs.Selection.{own, withStatus, SameVersion, selected}
 use Rattle.state.specs.Valid.{stateOk, pointRecordOk}
 use Rattle.state.specs.declared.PointRecord.{PointRecord}
 use Rattle.state.specs.declared.PointState.{PointState}
 use Rattle.state.specs.declared.Selection.{Selection}
 use Rattle.state.specs.declared.Selection.the-variants.{None, Selected}
+use Rattle.state.specs.declared.Status.the-variants.{Check}
 use Rattle.state.specs.declared.VersionRecord.{VersionRecord}
-use Rattle.state.proofs.Picks.{selected-kept}
+use Rattle.state.proofs.Picks.{selected-kept, selected-same}
 use Rattle.model.specs.Series.{sidesOf, adds, energy, figureOf, isOutside, outsideOf}
 use Rattle.model.proofs.Selections.{Within, selected-within}
 use Rattle.model.proofs.SeriesTable.{adds-zero, adds-small, adds-net}
@@ -34,13 +35,20 @@ use Rattle.state.proofs.PointTable.{put-other}
 abbrev pub part : List PointRecord → (groups : List ℕ) → List VersionRecord → List (List ℤ) → (run k quarter point : ℕ) → ℤ
 part ps gs vs es run k q p = adds (sidesOf gs (pointAt ps p)) k (energy es (selected run p vs) q)
 
--- a change of the versions that leaves every selection
-pub figure-versions : (ps : List PointRecord) (gs : List ℕ) (vs ws : List VersionRecord) (es : List (List ℤ)) → ((r i : ℕ) → own r i ws ≡ own r i vs)
+-- a change of the versions that leaves every selection, but for its status
+pub figure-versions : (ps : List PointRecord) (gs : List ℕ) (vs ws : List VersionRecord) (es : List (List ℤ)) → ((r i : ℕ) → SameVersion (own r i ws) (own r i vs))
     → (run k q : ℕ) → figureOf ps gs vs es run k q ≡ figureOf ps gs ws es run k q
-unfolding figureOf
+unfolding figureOf energy
 figure-versions ps gs vs ws es e run k q =
     sum-same points (part ps gs vs es run k q) (part ps gs ws es run k q)
-    (λ i lo hi. ap (λ (s : Selection). adds (sidesOf gs (pointAt ps i)) k (energy es s q)) (sym (selected-kept run i vs ws (λ r. e r i))))
+    (λ i lo hi. ap (adds (sidesOf gs (pointAt ps i)) k) (same (selected run i vs) (selected run i ws) (selected-same run i vs ws (λ r. e r i))))
+  where
+    bare : (s : Selection) → energy es s q ≡ energy es (withStatus Check s) q
+    bare None = refl
+    bare (Selected r) = refl
+
+    same : (s t : Selection) → SameVersion t s → energy es s q ≡ energy es t q
+    same s t z = bare s ∙ ap (λ (x : Selection). energy es x q) (sym z) ∙ sym (bare t)
 
 -- a point that has no selection may be any
 pub figure-point : (ps : List PointRecord) (gs : List ℕ) (vs : List VersionRecord) (es : List (List ℤ)) (p : ℕ) (t : PointRecord) → ((run : ℕ) → selected run p vs ≡ None)

@@ -28,6 +28,7 @@ pub mod SampleRunning
 pub mod Selections
 pub mod SeriesTable
 pub mod Settled
+pub mod SettledStatus
 pub mod Storing
 pub mod Submit
 pub mod TableDue

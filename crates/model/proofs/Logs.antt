@@ -12,10 +12,13 @@ use lib.Seq.{take-at, length-take-le}
 use Rattle.quantity.proofs.Tests.{and-left, and-right, and-both}
 use Rattle.book.specs.Row.{splice}
 use Rattle.book.proofs.Rows.{length-splice}
-use Rattle.state.specs.Selection.{own}
+use Rattle.state.specs.Change.{settledBy}
+use Rattle.state.specs.Selection.{own, withStatus, SameVersion}
 use Rattle.state.specs.declared.Selection.{Selection}
 use Rattle.state.specs.declared.Selection.the-variants.{None, Selected}
+use Rattle.state.specs.declared.Status.the-variants.{Check}
 use Rattle.state.specs.declared.VersionRecord.{VersionRecord}
+use Rattle.state.proofs.Kept.{settle-same}
 use Rattle.model.specs.Causes.{logFull}
 use Rattle.model.specs.Laws.{SameRow, RowOf}
 use Rattle.model.specs.Log.{sameRow, differ, logRow, due, addRow, logWords, logNumbers, logged, usedAfter}
@@ -45,10 +48,25 @@ no-row e = let z : _≡_ {A = ℕ} 0 1 = cc in absurd (omega arith)
 same-row : (r s : LogRow) → _≡_ {A = Due} (Row r) (Row s) → r ≡ s
 same-row r s e = cc
 
--- where a point's selections stay, no row is due
-pub due-same : (vs ws : List VersionRecord) (p d : ℕ) → ((r : ℕ) → own r p ws ≡ own r p vs) → due vs ws p d ≡ Nothing
+-- a status is not looked at
+differ-version : (s t : Selection) → SameVersion t s → differ s t ≡ false
+unfolding differ
+differ-version s t e = bare s t ∙ ap (λ (x : Selection). differ (withStatus Check s) x) e ∙ differ-same (withStatus Check s)
+  where
+    bare : (s t : Selection) → differ s t ≡ differ (withStatus Check s) (withStatus Check t)
+    bare None None = refl
+    bare None (Selected r) = refl
+    bare (Selected r) None = refl
+    bare (Selected r) (Selected q) = refl
+
+-- where a point's selections stay, but for their statuses, no row is due
+pub due-same : (vs ws : List VersionRecord) (p d : ℕ) → ((r : ℕ) → SameVersion (own r p ws) (own r p vs)) → due vs ws p d ≡ Nothing
 unfolding due
-due-same vs ws p d e = rw (e 1, e 2, differ-same (own 1 p vs), differ-same (own 2 p vs))
+due-same vs ws p d e = rw (differ-version (own 1 p vs) (own 1 p ws) (e 1), differ-version (own 2 p vs) (own 2 p ws) (e 2))
+
+-- so a settle owes none
+pub settle-unlogged : (r : ℕ) (vs : List VersionRecord) (p d : ℕ) → due vs (settledBy r vs) p d ≡ Nothing
+settle-unlogged r vs p d = due-same vs (settledBy r vs) p d (λ q. settle-same r vs q p)
 
 -- and where no row is due, both stay: "When run 1's selection or run 2's own changes, the log gains a row"
 pub due-nothing : (vs ws : List VersionRecord) (p d : ℕ) → due vs ws p d ≡ Nothing → SameRow (own 1 p vs) (own 1 p ws) × SameRow (own 2 p vs) (own 2 p ws)

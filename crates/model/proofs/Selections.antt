@@ -12,7 +12,7 @@ use Rattle.quantity.specs.Lists.{all}
 use Rattle.quantity.proofs.Lists.{all-map}
 use Rattle.quantity.proofs.Tests.{by-test, and-right}
 use Rattle.state.specs.Change.{submitted, noticed, confirm, settle, settledBy}
-use Rattle.state.specs.Selection.{rowAt, best, versionOf, isCounted, own, orElse, selected, Highest}
+use Rattle.state.specs.Selection.{best, versionOf, isCounted, own, orElse, selected, Highest}
 use Rattle.state.specs.Status.{counts, isCheck, submittedStatus, confirmedStatus, settledStatus}
 use Rattle.state.specs.Version.{emptyVersion, newVersion, restatus, recordAt, isAt, held, HeldIn}
 use Rattle.state.specs.declared.Held.{Held}
@@ -99,7 +99,7 @@ module _ (r i : ℕ) where
       go (Has j v) q =
           let w = restatus (confirmedStatus c d) v in
           by-test (λ (l : List VersionRecord). own r i l ≡ own r i vs) (eqb y 1 && isCheck (v .status)) (set vs j w) vs
-          (λ z. best-set (isCounted r i) vs j w (uncounted w e ∙ sym (ap (isCounted r i) (q .here) ∙ uncounted v (check-uncounted (v .status) (and-right (eqb y 1) _ z)))) (λ k. ap (rowAt k) (sym (q .here))))
+          (λ z. best-set (isCounted r i) vs j w (ap (isCounted r i) (q .here) ∙ uncounted v (check-uncounted (v .status) (and-right (eqb y 1) _ z))) (uncounted w e))
           (λ _. refl)
 
 -- ---- restated records: nothing but statuses changes

@@ -15,7 +15,7 @@ use Rattle.state.specs.Selection.{own, selected}
 use Rattle.state.specs.Valid.{openingOk}
 use Rattle.state.specs.declared.Opening.{Opening}
 use Rattle.state.specs.declared.Runs.{Runs}
-use Rattle.state.proofs.Kept.{settle-own}
+use Rattle.state.proofs.Kept.{settle-apart}
 use Rattle.model.specs.Agreement.{Running, Chained, end, fresh}
 use Rattle.model.specs.Call.{Call, opens, activates, deactivates, submits, notices, assigns, shows, asks, settles, Stores, Lengths, Lent, Told, told, telling}
 use Rattle.model.specs.Causes.{terms, rules, orIf, firstOf, openingBy, opensOk, refusal}
@@ -48,11 +48,11 @@ day-grows v n (settles r d) P = ltb-false d (v .frame .day .0) (P .1 .1 .0)
 -- ---- the accepted calls of an opened plain desk
 
 -- the opening is within its limits, and a settled run 1 lies past the clearing deadline
-record Opened (h : List Told) : Type 0 where
-  opening : openingOk (openingOf h) ≡ true
-  past : settledOf h .first ≡ true → openingOf h .clearing .0 < dayOf h
+pub record Opened (h : List Told) : Type 0 where
+  pub opening : openingOk (openingOf h) ≡ true
+  pub past : settledOf h .first ≡ true → openingOf h .clearing .0 < dayOf h
 
-data Plain (h : List Told) : Type 0 where
+pub data Plain (h : List Told) : Type 0 where
   empty : h ≡ [] → Plain h
   opened : Opened h → Plain h
 
@@ -99,7 +99,7 @@ module _ (h : List Told) (O : Opened h) (n : Lengths) where
   settled-after (settles r d) e = rw (e, or-true (eqb r 1))
 
   -- and its selection stays
-  own-after : (c : Call) → Passed (rules (viewIn h) n c) → settledOf h .first ≡ true → (i : ℕ) → own 1 i (after (telling n c) (workedOut h) .versions) ≡ own 1 i (versionsOf h)
+  pub own-after : (c : Call) → Passed (rules (viewIn h) n c) → settledOf h .first ≡ true → (i : ℕ) → own 1 i (after (telling n c) (workedOut h) .versions) ≡ own 1 i (versionsOf h)
   unfolding viewIn after fold
   own-after (opens q f c k gs) P e i = refl
   own-after (activates p k a b d) P e i = refl
@@ -113,13 +113,13 @@ module _ (h : List Told) (O : Opened h) (n : Lengths) where
   own-after (assigns a g d) P e i = refl
   own-after (shows r g) P e i = refl
   own-after (asks p x) P e i = refl
-  own-after (settles r d) P e i = settle-own r (versionsOf h) 1 i
+  own-after (settles r d) P e i = settle-apart r (versionsOf h) 1 i (λ z. false≢true (sym (rw (sym z) at (P .1 .1 .1 .1 .0)) ∙ e))
 
 -- what is to be shown of one call
-record Onward (h g : List Told) : Type 0 where
-  plain : Plain g
-  settled : settledOf h .first ≡ true → settledOf g .first ≡ true
-  stays : settledOf h .first ≡ true → (i : ℕ) → own 1 i (versionsOf g) ≡ own 1 i (versionsOf h)
+pub record Onward (h g : List Told) : Type 0 where
+  pub plain : Plain g
+  pub settled : settledOf h .first ≡ true → settledOf g .first ≡ true
+  pub stays : settledOf h .first ≡ true → (i : ℕ) → own 1 i (versionsOf g) ≡ own 1 i (versionsOf h)
 
 opened-on : (h : List Told) (n : Lengths) (c : Call) → Opened h → Onward h (plainNext h (telling n c))
 unfolding plainNext joined refusal workedOut after fold
@@ -162,7 +162,7 @@ empty-on n (shows r g) = record { plain = empty refl; settled = λ z. z; stays =
 empty-on n (asks p x) = record { plain = empty refl; settled = λ z. z; stays = λ z i. refl }
 empty-on n (settles r d) = record { plain = empty refl; settled = λ z. z; stays = λ z i. refl }
 
-onward : (h : List Told) (t : Told) → Plain h → Onward h (plainNext h t)
+pub onward : (h : List Told) (t : Told) → Plain h → Onward h (plainNext h t)
 onward h t (empty e) = rw e (empty-on (t .lengths) (t .call))
 onward h t (opened O) = opened-on h (t .lengths) (t .call) O
 
@@ -189,7 +189,7 @@ pub settled-plain : (l m : List Told) → settledOf (plainEnd [] l) .first ≡ t
 settled-plain l m e p =
     ap (λ (h : List Told). own 1 p (versionsOf h)) (end-append [] l m) ∙ on-end (plainEnd [] l) m (on-end [] l (empty refl) .plain) .stays e p
 
-same-settled : (r : Running) (h : List Told) → State r h → r .desk .frame .settled ≡ settledOf h
+pub same-settled : (r : Running) (h : List Told) → State r h → r .desk .frame .settled ≡ settledOf h
 unfolding workedOut
 same-settled r h (early a b) = rw (a, b) refl
 same-settled r h (holding H) = ap (λ (w : Worked). w .settled) (H .works)

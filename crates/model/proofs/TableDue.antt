@@ -12,7 +12,7 @@ use Rattle.quantity.specs.Meaning.{Means}
 use Rattle.quantity.proofs.Meanings.{means-lt, means-so, means-never, means-and, means-or, means-le, means-eq}
 use Rattle.quantity.proofs.Tests.{by-test, and-left, and-right}
 use Rattle.state.specs.Change.{submitted, noticed}
-use Rattle.state.specs.Selection.{rowAt, raiseEarlier, best, versionOf, isCounted, own, highest, IsHighest, Highest}
+use Rattle.state.specs.Selection.{rowAt, raiseEarlier, best, versionOf, isCounted, own, withStatus, highest, IsHighest, Highest}
 use Rattle.state.specs.Status.{statusNumber, counts, confirmedStatus}
 use Rattle.state.specs.Version.{newVersion, restatus, recordAt, isAt, held, HeldIn}
 use Rattle.state.specs.declared.Held.the-variants.{Has}
@@ -91,7 +91,7 @@ module _ (vs : List VersionRecord) (f p x d : ℕ) (above : highest p vs < x) wh
           (logRow d p 1 (own 1 p (submitted new vs)), changed-first vs (submitted new vs) p d (ap (differ (own 1 p vs)) chosen ∙ outside (own 1 p vs) (own-highest 1 p vs)))
 
       none : leb d f ≡ false → due vs (submitted new vs) p d ≡ Nothing
-      none e = due-same vs (submitted new vs) p d (λ r. submit-check r p new vs (rw e))
+      none e = due-same vs (submitted new vs) p d (λ r. ap (withStatus Check) (submit-check r p new vs (rw e)))
 
 -- ---- a notice on check data
 
@@ -189,4 +189,4 @@ module _ (vs : List VersionRecord) (c p x d i : ℕ) (v : VersionRecord) (found 
       go false e =
           let no : y ≡ 1 → ⊥ = eqb-false y 1 e in
           let same = notice-negative c p x y d vs no in
-          rw (due-same vs (noticed c p x y d vs) p d (λ r. ap (own r p) same)) (means-never (λ q. no (q .0 .0)))
+          rw (due-same vs (noticed c p x y d vs) p d (λ r. ap (λ (l : List VersionRecord). withStatus Check (own r p l)) same)) (means-never (λ q. no (q .0 .0)))

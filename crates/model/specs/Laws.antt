@@ -8,13 +8,15 @@ use lib.Dec.{eqb}
 use lib.IntN.{ℤ, pos, _+ℤ_, _-ℤ_}
 use lib.ListN.{length, getD}
 use Rattle.state.specs.Point.{activePoint}
-use Rattle.state.specs.Selection.{own, versionOf}
+use Rattle.state.specs.Selection.{own, selected, SameVersion, versionOf}
 use Rattle.state.specs.Status.{statusNumber, isCheck}
 use Rattle.state.specs.Version.{recordAt, restatus, isVersion}
+use Rattle.state.specs.declared.Runs.{Runs}
 use Rattle.state.specs.declared.Selection.{Selection}
 use Rattle.state.specs.declared.Selection.the-variants.{None, Selected}
 use Rattle.state.specs.declared.Status.{Status}
 use Rattle.state.specs.declared.VersionRecord.{VersionRecord}
+use Rattle.state.specs.declared.VersionRow.{VersionRow}
 use Rattle.model.specs.Call.{Call, opens, activates, deactivates, submits, notices, assigns, shows, asks, settles, Lengths}
 use Rattle.model.specs.Causes.{Rule}
 use Rattle.model.specs.Log.{logWords}
@@ -47,11 +49,20 @@ pub record Confirms (p x : ℕ) (s : Status) (vs ws : List VersionRecord) : Type
   pub check : isCheck (recordAt vs at .status) ≡ true
   pub restates : Restates at s vs ws
 
--- "A call that changes run 1's selection or run 2's own adds one log row.": it changes one of the two, and of one point
+-- "A call that changes run 1's selection or run 2's own adds one log row.": it changes one of the two, and of one point; a restated status is no
+-- other selection
 pub record OwesOne (vs ws : List VersionRecord) : Type 0 where
   pub point : ℕ
-  pub elsewhere : (r i : ℕ) → (i ≡ point → ⊥) → own r i ws ≡ own r i vs
-  pub one : (own 1 point ws ≡ own 1 point vs) ⊎ (own 2 point ws ≡ own 2 point vs)
+  pub elsewhere : (r i : ℕ) → (i ≡ point → ⊥) → SameVersion (own r i ws) (own r i vs)
+  pub one : SameVersion (own 1 point ws) (own 1 point vs) ⊎ SameVersion (own 2 point ws) (own 2 point vs)
+
+-- what a status tells of its run: "each selected version gets 3", and run 2's own 5, where the run is settled; before that 2 and 4. Where run 2 has
+-- none of its own it tells run 1's
+pub record TellsSettled (settled : Runs) (vs : List VersionRecord) : Type 0 where
+  pub first : settled .first ≡ true → (p : ℕ) (r : VersionRow) → selected 1 p vs ≡ Selected r → statusNumber (r .status) ≡ 3
+  pub firstOpen : settled .first ≡ false → (p : ℕ) (r : VersionRow) → selected 1 p vs ≡ Selected r → statusNumber (r .status) ≡ 2
+  pub second : settled .second ≡ true → (p : ℕ) (r : VersionRow) → selected 2 p vs ≡ Selected r → (statusNumber (r .status) ≡ 5) ⊎ (statusNumber (r .status) ≡ 3)
+  pub secondOpen : settled .second ≡ false → (p : ℕ) (r : VersionRow) → own 2 p vs ≡ Selected r → statusNumber (r .status) ≡ 4
 
 -- no other selection: the same row of the version table, by index and number
 abbrev pub SameRow : Selection → Selection → Type 0

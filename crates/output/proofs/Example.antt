@@ -17,7 +17,7 @@ use Rattle.state.specs.Walk.{walk}
 use Rattle.model.specs.Call.{Told, telling}
 use Rattle.model.specs.Causes.{orIf, firstOf, opensOk, otherLengths, isAbsent, notCheck, refusal}
 use Rattle.model.specs.Log.{differ, due}
-use Rattle.model.specs.Plain.{viewIn, figure, answered, joined, plainReply, plainNext, plainReplies, plainEnd, workedOut, after}
+use Rattle.model.specs.Plain.{versionsOf, viewIn, figure, answered, joined, plainReply, plainNext, plainReplies, plainEnd, workedOut, after}
 use Rattle.model.specs.Sample.{room, file}
 use Rattle.model.specs.Series.{toSide, fromSide, sidesOf, onSide, adds, energy, figureOf}
 use Rattle.model.specs.Step.{statusAnswer}
@@ -27,7 +27,7 @@ use Rattle.replay.specs.Given.{given, givenIn}
 use Rattle.replay.specs.Replay.{numbersOf}
 use Rattle.text.specs.Text.{decimalIn, signedText, eachTo}
 use Rattle.output.specs.Example.{exampleInput, exampleOutput}
-use Rattle.output.specs.Output.{lent, foundIn, toldIn, answersText, groupText, quarterText, monthText, figuresText, endText, textOf, outputOf}
+use Rattle.output.specs.Output.{lent, foundIn, toldIn, answersText, groupText, quarterText, monthText, figuresText, selectionText, selectionsText, endText, textOf, outputOf}
 
 -- the calls that the reader finds are open, activate, submit, submit again
 calls-read : map given (givenIn (foundIn exampleInput .calls)) ≡ file
@@ -43,14 +43,18 @@ told-file : tells lent [] file ≡ map (telling (room 1)) file
 unfolding all any fold seriesOk best openingOk held walk orIf firstOf opensOk otherLengths isAbsent notCheck refusal differ due viewIn joined plainNext file lentOf lengthsFor tells workedOut after
 told-file = refl
 
--- the lines of the answers, and those of the figures
+-- the lines of the answers, of the figures and of the selections
 answers-text : answersText (numbersOf (plainReplies [] (map (telling (room 1)) file))) ≡ take 17 exampleOutput
 unfolding all any fold seriesOk best openingOk held walk orIf firstOf opensOk otherLengths isAbsent notCheck refusal differ due viewIn answered joined plainReply plainNext plainReplies file statusAnswer decimalIn eachTo answersText workedOut after
 answers-text = refl
 
-figures-text : figuresText (plainEnd [] (map (telling (room 1)) file)) ≡ drop 17 exampleOutput
+figures-text : figuresText (plainEnd [] (map (telling (room 1)) file)) ≡ take 48 (drop 17 exampleOutput)
 unfolding all any fold sumTo seriesOk best openingOk held walk orIf firstOf opensOk otherLengths isAbsent notCheck refusal differ due viewIn figure joined plainNext plainEnd file toSide fromSide sidesOf onSide adds energy figureOf statusAnswer decimalIn signedText eachTo groupText quarterText monthText figuresText workedOut after
 figures-text = refl
+
+selections-text : selectionsText (versionsOf (plainEnd [] (map (telling (room 1)) file))) ≡ drop 65 exampleOutput
+unfolding all any fold seriesOk best openingOk held walk orIf firstOf opensOk otherLengths isAbsent notCheck refusal differ due viewIn joined plainNext plainEnd file statusAnswer decimalIn eachTo selectionText selectionsText workedOut after
+selections-text = refl
 
 -- "Hexadecimal input: .. Output: .."
 pub example : outputOf exampleInput ≡ exampleOutput
@@ -58,4 +62,4 @@ unfolding textOf
 example =
     let t : toldIn exampleInput ≡ map (telling (room 1)) file = ap (tells lent []) calls-read ∙ told-file in
     ap₂ (λ (x y : List ℕ). x ++ y) (ap (λ (l : List Told). answersText (numbersOf (plainReplies [] l))) t ∙ answers-text)
-    (ap₂ (λ (e : Ending) (l : List Told). endText e (length exampleInput - length (foundIn exampleInput .left)) (plainEnd [] l)) file-ends t ∙ figures-text)
+    (ap₂ (λ (e : Ending) (l : List Told). endText e (length exampleInput - length (foundIn exampleInput .left)) (plainEnd [] l)) file-ends t ∙ ap₂ (λ (x y : List ℕ). x ++ y) figures-text selections-text)

@@ -1,8 +1,8 @@
--- What stays true of the plain desk's list as it is fed the calls of a file, with the program's store lengths: Q is at most 8, and every energy
--- is in range. Assumes nothing.
+-- What stays true of the plain desk's list as it is fed the calls of a file, with the program's store lengths: Q is at most 8, every energy is in
+-- range, and without an opening there is no version. Assumes nothing.
 use Prim.Native.Nat.{ℕ, _*_, _≤_, _<_}
-use mathlib.Core.Path.{_≡_, refl}
-use mathlib.Core.Bool.{Bool, true, false, cond}
+use mathlib.Core.Path.{_≡_, refl, sym, ap, _∙_}
+use mathlib.Core.Bool.{Bool, true, false, cond, not, true≢false}
 use mathlib.Core.List.{List, [], _∷_}
 use native.Mathlib.Omega.{arith}
 use borrow.Author.Tests.{eqb-true, leb-true, not-false}
@@ -16,8 +16,9 @@ use Rattle.quantity.proofs.Sums.{sum-small}
 use Rattle.quantity.proofs.Tests.{and-left, and-right, by-test}
 use Rattle.state.specs.Desk.{isOpen}
 use Rattle.state.specs.Point.{pointAt}
-use Rattle.state.specs.Selection.{selected}
+use Rattle.state.specs.Selection.{best, selected}
 use Rattle.state.specs.Valid.{openingOk}
+use Rattle.state.specs.Walk.{walk}
 use Rattle.state.specs.declared.Selection.{Selection}
 use Rattle.state.specs.declared.Selection.the-variants.{None, Selected}
 use Rattle.model.specs.Call.{Call, opens, activates, deactivates, submits, notices, assigns, shows, asks, settles, Lengths, Told, answerNumber}
@@ -26,10 +27,12 @@ use Rattle.model.specs.Plain.{openingOf, pointsOf, versionsOf, energiesOf, view
 use Rattle.model.specs.Series.{energy, isOutside, outsideOf}
 use Rattle.model.specs.declared.Ruling.{Ruling}
 use Rattle.model.specs.declared.Ruling.the-variants.{Fine, Refuse}
+use Rattle.model.proofs.Invariant.{quarters-in}
 use Rattle.model.proofs.Lists.{all-snoc}
 use Rattle.model.proofs.Rules.{passed}
 use Rattle.replay.specs.Feeding.{lentOf, lengthsFor, toldAs, tells}
-use Rattle.output.specs.Output.{programQuarters, lent}
+use Rattle.text.specs.Text.{eachTo}
+use Rattle.output.specs.Output.{programQuarters, lent, selectionText, selectionsText}
 
 -- a call that is refused leaves the list
 joins : (P : List Told → Type 0) (h : List Told) (t : Told) → P h → (refusal (viewIn h) t ≡ Fine → P (t ∷ h)) → P (plainNext h t)
@@ -140,3 +143,37 @@ outside-small n cs run q =
     (λ p lo hi. by-test (λ (z : ℤ). natAbs z ≤ mostEnergy) (isOutside (pointAt (pointsOf h) p)) (energy (energiesOf h) (selected run p (versionsOf h)) q) (pos 0)
     (λ _. energy-small (energiesOf h) (fit-energies n cs) (selected run p (versionsOf h)) q)
     (λ _. omega arith))
+
+-- ---- a desk that is not open prints no selection
+
+-- it holds no version
+abbrev Bare : List Told → Type 0
+Bare h = openingOf h .quarters ≡ 0 → versionsOf h ≡ []
+
+-- where a call is accepted that needs an open desk
+opened : {A : Type 0} (h : List Told) → not (isOpen (openingOf h)) ≡ false → openingOf h .quarters ≡ 0 → A
+opened h e z = let shut : isOpen (openingOf h) ≡ false = rw z in absurd (true≢false (sym (not-false _ e) ∙ shut))
+
+bare-next : (h : List Told) (c : Call) → Bare h → refusal (viewIn h) (toldAs lent h c) ≡ Fine → Bare (toldAs lent h c ∷ h)
+unfolding refusal viewIn workedOut after fold opensOk
+bare-next h (opens q f c k gs) p e =
+    let n = lengthsFor lent (openingOf h .quarters) (opens q f c k gs) in
+    let ok : opensOk (openingBy q f c k n) gs ≡ true = not-false _ (passed (rules (viewIn h) n (opens q f c k gs)) e .1 .0) in
+    λ z. absurd (omega (arith, z, quarters-in (openingBy q f c k n) (and-left _ _ ok)))
+bare-next h (activates x k a b d) p e = p
+bare-next h (deactivates x d) p e = p
+bare-next h (submits x v d es) p e = λ z. opened h (passed (rules (viewIn h) _ (submits x v d es)) e .0) z
+bare-next h (notices x v y d) p e = λ z. opened h (passed (rules (viewIn h) _ (notices x v y d)) e .0) z
+bare-next h (assigns a g d) p e = p
+bare-next h (shows r g) p e = p
+bare-next h (asks x v) p e = p
+bare-next h (settles r d) p e = λ z. opened h (passed (rules (viewIn h) (toldAs lent h (settles r d) .lengths) (settles r d)) e .0) z
+
+none-selected : selectionsText [] ≡ []
+unfolding best walk eachTo selectionText selectionsText
+none-selected = refl
+
+-- "for points with a selection": there is none on a desk that is not open
+pub not-open-silent : (cs : List Call) → openingOf (plainEnd [] (tells lent [] cs)) .quarters ≡ 0 → selectionsText (versionsOf (plainEnd [] (tells lent [] cs))) ≡ []
+unfolding workedOut
+not-open-silent cs z = ap selectionsText (kept Bare lent bare-next [] cs (λ _. refl) z) ∙ none-selected

@@ -15,8 +15,10 @@ use Rattle.quantity.proofs.Words.{signed-word, small-fits}
 use Rattle.book.specs.Place.{groupRow}
 use Rattle.message.specs.File.{Ending, whole, stopped, Found, callsIn}
 use Rattle.message.proofs.Files.{few-calls}
+use Rattle.state.specs.Desk.{versionsIn}
+use Rattle.state.specs.declared.VersionRecord.{VersionRecord}
 use Rattle.model.specs.Call.{Call, Stores, Lengths, lengthsOf, Told}
-use Rattle.model.specs.Plain.{openingOf, viewIn, figure, outside, plainReplies, plainNext, plainEnd}
+use Rattle.model.specs.Plain.{openingOf, versionsOf, viewIn, figure, outside, plainReplies, plainNext, plainEnd}
 use Rattle.model.specs.View.{View, viewOf}
 use Rattle.replay.specs.Feeding.{toldAs, tells}
 use Rattle.replay.specs.Given.{Given, given, givenIn}
@@ -30,7 +32,7 @@ use Rattle.text.proofs.Texts.{each-same}
 use Rattle.output.specs.Figures.{Summed, readOf}
 use Rattle.output.specs.Fill.{mostCalls}
 use Rattle.output.specs.Parts.{Short, Sized, endedText}
-use Rattle.output.specs.Output.{fileSize, seriesSize, programQuarters, lent, foundIn, toldIn, answersText, groupText, quarterText, monthText, figuresText, endText, textOf}
+use Rattle.output.specs.Output.{fileSize, seriesSize, programQuarters, lent, foundIn, toldIn, answersText, groupText, quarterText, monthText, figuresText, selectionsText, endText, textOf}
 use Rattle.output.proofs.Answers.{answers-short}
 use Rattle.output.proofs.Feeds.{few-quarters, outside-small}
 use Rattle.output.proofs.Totals.{total-word}
@@ -79,12 +81,12 @@ length-answers n h (c ∷ cs) = ap suc (length-answers n (plainNext h (toldAs n 
 -- ---- how it ends
 
 -- with room for more answers than the file has calls, what stands behind the answers is by the file's ending
-ended : (file : List ℕ) (f : Found) (most n : ℕ) (g : ℕ → ℕ → ℕ → ℤ) (h : List Told) → length (f .calls) < most → monthText n g ≡ figuresText h
-    → endedText (endingOf (length file) most f) n g ≡ endText (f .ending) (length file - length (f .left)) h
-ended file f most n g h room same = by (f .ending) refl
+ended : (file : List ℕ) (f : Found) (most n : ℕ) (g : ℕ → ℕ → ℕ → ℤ) (vs : List VersionRecord) (h : List Told) → length (f .calls) < most → monthText n g ≡ figuresText h → vs ≡ versionsOf h
+    → endedText (endingOf (length file) most f) n g vs ≡ endText (f .ending) (length file - length (f .left)) h
+ended file f most n g vs h room same held = by (f .ending) refl
   where
-    by : (e : Ending) → f .ending ≡ e → endedText (endingOf (length file) most f) n g ≡ endText e (length file - length (f .left)) h
-    by whole e = rw (e, le-leb (length (f .calls)) most (omega arith)) same
+    by : (e : Ending) → f .ending ≡ e → endedText (endingOf (length file) most f) n g vs ≡ endText e (length file - length (f .left)) h
+    by whole e = rw (e, le-leb (length (f .calls)) most (omega arith)) (ap₂ (λ (x y : List ℕ). x ++ y) same (ap selectionsText held))
     by (stopped x) e = rw (e, lt-ltb (length (f .calls)) most room)
 
 -- ---- a replay in the program's stores
@@ -142,11 +144,16 @@ module _ (file : List ℕ) (s : Stores) (buffer output : List ℕ) (r : Replayed
     ending-is : r .ending ≡ endingOf (length file) (length output) (foundIn file)
     ending-is = R .ending ∙ ap (λ (n : ℕ). endingOf (length file) (length output) (callsIn n file)) (Z .series)
 
+    versions-are : versionsIn (r .desk) ≡ versionsOf list
+    unfolding viewIn
+    versions-are = ap (λ (v : View). v .versions) (R .desk .view) ∙ ap (λ (l : List Told). versionsOf (plainEnd [] l)) told-all
+
     -- the whole output
-    pub text-is : answersText (take (r .answered) output′) ++ endedText (r .ending) (viewOf (r .desk) .frame .opening .quarters) (readOf (after .book) (viewOf (r .desk) .frame .opening .quarters)) ≡ textOf file
+    pub text-is : answersText (take (r .answered) output′) ++ endedText (r .ending) (viewOf (r .desk) .frame .opening .quarters) (readOf (after .book) (viewOf (r .desk) .frame .opening .quarters)) (versionsIn (r .desk)) ≡ textOf file
     unfolding textOf
     text-is =
+        let n = viewOf (r .desk) .frame .opening .quarters in
         ap₂ (λ (x y : List ℕ). x ++ y) (ap answersText answers-are)
-        (ap (λ (e : EndingOf). endedText e (viewOf (r .desk) .frame .opening .quarters) (readOf (after .book) (viewOf (r .desk) .frame .opening .quarters))) ending-is
-        ∙ ended file (foundIn file) (length output) (viewOf (r .desk) .frame .opening .quarters) (readOf (after .book) (viewOf (r .desk) .frame .opening .quarters)) list few
-        (ap (λ (q : ℕ). monthText q (readOf (after .book) q)) quarters-is ∙ book-text list s after leaving))
+        (ap (λ (e : EndingOf). endedText e n (readOf (after .book) n) (versionsIn (r .desk))) ending-is
+        ∙ ended file (foundIn file) (length output) n (readOf (after .book) n) (versionsIn (r .desk)) list few
+        (ap (λ (q : ℕ). monthText q (readOf (after .book) q)) quarters-is ∙ book-text list s after leaving) versions-are)

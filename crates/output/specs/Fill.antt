@@ -5,7 +5,7 @@ use mathlib.Core.Bool.{cond}
 use mathlib.Core.List.{List}
 use lib.Dec.{leb}
 use lib.ListN.{length}
-use Rattle.quantity.specs.Limits.{runs, groups}
+use Rattle.quantity.specs.Limits.{runs, points, groups}
 use Rattle.replay.specs.Replay.{over}
 use Rattle.output.specs.Output.{programQuarters, outputOf}
 use Rattle.output.specs.declared.Filled.{Filled}
@@ -38,9 +38,25 @@ quarterRoom = groupRoom * groups + totalRoom
 abbrev pub figuresRoom : ℕ
 figuresRoom = runs * (quarterRoom * programQuarters)
 
+-- of a selection's line
+abbrev pub selectionRoom : ℕ
+selectionRoom = 86
+
+-- of a run's selections
+abbrev pub runRoom : ℕ
+runRoom = selectionRoom * points
+
+-- of all selections
+abbrev pub selectionsRoom : ℕ
+selectionsRoom = runs * runRoom
+
+-- of what stands behind the answers
+abbrev pub endRoom : ℕ
+endRoom = figuresRoom + selectionsRoom
+
 -- a buffer of so many bytes is enough for any input
 abbrev pub most : ℕ
-most = answerRoom * mostCalls + figuresRoom
+most = answerRoom * mostCalls + endRoom
 
 -- the output's length, or that a buffer of so many bytes is too small
 abbrev pub filledOf : (room : ℕ) (text : List ℕ) → Filled

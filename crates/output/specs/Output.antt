@@ -5,17 +5,22 @@ use mathlib.Core.List.{List, [], _++_, map}
 use lib.Dec.{eqb}
 use lib.IntN.{ℤ, natAbs}
 use lib.ListN.{length, getD, take}
-use Rattle.quantity.specs.Limits.{mostQuarters, runs, groups, bookRows}
+use Rattle.quantity.specs.Limits.{mostQuarters, runs, points, groups, bookRows}
 use Rattle.quantity.specs.Sum.{sumTo}
 use Rattle.book.specs.Place.{groupRow}
+use Rattle.state.specs.Selection.{selected}
+use Rattle.state.specs.Status.{statusNumber}
+use Rattle.state.specs.declared.Selection.{Selection}
+use Rattle.state.specs.declared.Selection.the-variants.{None, Selected}
+use Rattle.state.specs.declared.VersionRecord.{VersionRecord}
 use Rattle.message.specs.Cause.{causeNumber}
 use Rattle.message.specs.File.{Ending, whole, stopped, Found, callsIn}
 use Rattle.model.specs.Call.{Lengths, Told}
-use Rattle.model.specs.Plain.{openingOf, figure, plainReplies, plainEnd}
+use Rattle.model.specs.Plain.{openingOf, versionsOf, figure, plainReplies, plainEnd}
 use Rattle.replay.specs.Feeding.{tells}
 use Rattle.replay.specs.Given.{given, givenIn}
 use Rattle.replay.specs.Replay.{numbersOf}
-use Rattle.text.specs.Line.{answerLine, refusalLine, groupLine, totalLine}
+use Rattle.text.specs.Line.{answerLine, refusalLine, groupLine, totalLine, selectionLine}
 use Rattle.text.specs.Text.{eachTo}
 
 -- "the first 65,536 bytes of standard input"
@@ -62,9 +67,18 @@ monthText n f = eachTo runs (λ (r : ℕ). eachTo n (λ (q : ℕ). quarterText r
 unfoldable pub figuresText : List Told → List ℕ
 figuresText h = monthText (openingOf h .quarters) (λ (r q g : ℕ). figure h r (groupRow g) (q - 1))
 
--- "on a file refusal `F number offset` after the lines already printed, then nothing"
+-- "`S run point version status` .. for points with a selection"
+unfoldable pub selectionText : (run point : ℕ) → Selection → List ℕ
+selectionText r p None = []
+selectionText r p (Selected v) = selectionLine r p (v .version .0) (statusNumber (v .status))
+
+-- ".. runs rising, then points rising"; a desk that is not open has no versions
+unfoldable pub selectionsText : List VersionRecord → List ℕ
+selectionsText vs = eachTo runs (λ (r : ℕ). eachTo points (λ (p : ℕ). selectionText r p (selected r p vs)))
+
+-- "After the T lines the desk program prints" them; "on a file refusal `F number offset` after the lines already printed, then nothing"
 abbrev pub endText : Ending → (offset : ℕ) → List Told → List ℕ
-endText whole at h = figuresText h
+endText whole at h = figuresText h ++ selectionsText (versionsOf h)
 endText (stopped x) at h = refusalLine (causeNumber x) at
 
 -- the output of a file

@@ -1,6 +1,7 @@
 // The desk program's whole output, worked out from the bytes of its input.
 mod figures;
 mod print;
+mod selections;
 
 use print::put_answers;
 use print::put_ending;
@@ -15,7 +16,7 @@ ghost use Rattle.output.specs.Parts.{Sized};
 ghost use Rattle.output.specs.Output.{fileSize, textOf};
 
 // A buffer of so many bytes is enough for any input.
-pub const MOST: usize = 286_749;
+pub const MOST: usize = 330_781;
 
 // The desk reads so many bytes of its input.
 pub const FILE: usize = 65_536;
@@ -57,7 +58,16 @@ fn put_output(
     let frame = desk.frame;
     let opening = frame.opening;
     let next = put_answers(out, 0, answers, done.answered);
-    put_ending(out, next, ending, opening.quarters as usize, book)
+    let versions = desk.versions;
+    put_ending(
+        out,
+        next,
+        ending,
+        opening.quarters as usize,
+        book,
+        versions,
+        frame.count,
+    )
 }
 
 // How many bytes of an input of so many are read.

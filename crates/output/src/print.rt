@@ -2,9 +2,12 @@
 use crate::figures::GROUPS;
 use crate::figures::figure;
 use crate::figures::total;
+use crate::selections::put_selections;
 use message::cause::number_of;
 use quantity::WattHours;
+use quantity::limits::VERSIONS;
 use replay::Ending;
+use state::VersionRecord;
 use text::line::answer_line;
 use text::line::group_line;
 use text::line::refusal_line;
@@ -15,7 +18,7 @@ ghost use Rattle.quantity.specs.Limits.{groups, runs};
 ghost use Rattle.quantity.specs.Word.{signed};
 ghost use Rattle.text.specs.Text.{Put, eachTo};
 ghost use Rattle.output.specs.Figures.{IsPlace, Summed, readOf};
-ghost use Rattle.output.specs.Fill.{mostCalls, answerRoom, lineRoom, groupRoom, quarterRoom, figuresRoom};
+ghost use Rattle.output.specs.Fill.{mostCalls, answerRoom, lineRoom, groupRoom, quarterRoom, figuresRoom, endRoom};
 ghost use Rattle.output.specs.Parts.{Short, endedText};
 ghost use Rattle.output.specs.Output.{programQuarters, answersText, groupText, quarterText, monthText};
 
@@ -114,13 +117,24 @@ fn put_month(out: &mut [u8], at: usize, book: &[u64], quarters: usize) -> usize
     put_run(out, next, book, quarters, 2)
 }
 
-// What stands behind the answers: the file's refusal, or the figures.
-pub fn put_ending(out: &mut [u8], at: usize, ending: Ending, quarters: usize, book: &[u64]) -> usize
-    requires { ⌜ (quarters ≤ programQuarters) × Summed (now book) quarters × (at + figuresRoom ≤ length (now out)) ⌝ }
-    ensures { λ r. ⌜ Put figuresRoom at (endedText ending quarters (readOf (now (book .entry)) quarters)) (now (out .entry)) (now (out .exit)) r ⌝ }
+// What stands behind the answers: the file's refusal, or the figures and the selections.
+pub fn put_ending(
+    out: &mut [u8],
+    at: usize,
+    ending: Ending,
+    quarters: usize,
+    book: &[u64],
+    versions: [VersionRecord; VERSIONS as usize],
+    count: u64,
+) -> usize
+    requires { ⌜ (quarters ≤ programQuarters) × Summed (now book) quarters × (at + endRoom ≤ length (now out)) ⌝ }
+    ensures { λ r. ⌜ Put endRoom at (endedText ending quarters (readOf (now (book .entry)) quarters) (take count versions)) (now (out .entry)) (now (out .exit)) r ⌝ }
 {
     match ending {
-        Ending::End => put_month(out, at, book, quarters),
+        Ending::End => {
+            let next = put_month(out, at, book, quarters);
+            put_selections(out, next, versions, count)
+        }
         Ending::Refused { cause, offset } => refusal_line(out, at, number_of(cause), offset as u64),
         Ending::Full => at,
     }

@@ -14,12 +14,12 @@ use Rattle.replay.specs.Replay.{over}
 use Rattle.state.specs.declared.PointState.{PointState}
 use Rattle.state.specs.declared.PointState.the-variants.{Free, Active}
 use Rattle.state.specs.Point.{pointAt}
-use Rattle.state.specs.Selection.{versionOf, inRun}
 use Rattle.state.specs.Version.{recordAt, emptyVersion}
 use Rattle.state.specs.declared.PointRecord.{PointRecord}
+use Rattle.state.specs.declared.Selection.{Selection}
 use Rattle.state.specs.declared.VersionRecord.{VersionRecord}
 use Rattle.quantity.specs.Limits.{points}
-use Rattle.checks.specs.Picks.{noPicks, PicksIn}
+use Rattle.checks.specs.Picks.{noPicks, selectedIn, PicksIn}
 use Rattle.checks.specs.declared.PointPicks.{PointPicks}
 use Rattle.report.specs.Table.{rowsTo, pointPlaces, pointRow, versionPlaces, versionRow, refusals, firstRefused}
 
@@ -54,9 +54,9 @@ pub rows-none : (f : ℕ → List ℕ) (old : List ℕ) → old ≡ over (rowsTo
 unfolding rowsTo
 rows-none f old = refl
 
-point-wide : (p : PointState) (x y : ℕ) → length (pointPlaces p x y) ≡ 7
-point-wide Free x y = refl
-point-wide (Active since kind area partner) x y = refl
+point-wide : (p : PointState) (s t : Selection) → length (pointPlaces p s t) ≡ 9
+point-wide Free s t = refl
+point-wide (Active since kind area partner) s t = refl
 
 -- the same rows, place by place
 rows-same : (n : ℕ) (f g : ℕ → List ℕ) → ((i : ℕ) → i < n → f i ≡ g i) → rowsTo n f ≡ rowsTo n g
@@ -66,9 +66,9 @@ rows-same (suc n) f g e = rw (rows-same n f g (λ i h. e i (omega arith)), e n (
 
 -- a point's row by the table of picks
 abbrev pub pickedRow : List PointRecord → List PointPicks → ℕ → List ℕ
-pickedRow ps t i = pointPlaces (pointAt ps (suc i)) (versionOf (inRun 1 (getD t i noPicks .first) (getD t i noPicks .second))) (versionOf (inRun 2 (getD t i noPicks .first) (getD t i noPicks .second)))
+pickedRow ps t i = pointPlaces (pointAt ps (suc i)) (selectedIn 1 (getD t i noPicks)) (selectedIn 2 (getD t i noPicks))
 
-pub picked-wide : (ps : List PointRecord) (t : List PointPicks) (i : ℕ) → length (pickedRow ps t i) ≡ 7
+pub picked-wide : (ps : List PointRecord) (t : List PointPicks) (i : ℕ) → length (pickedRow ps t i) ≡ 9
 picked-wide ps t i = point-wide (pointAt ps (suc i)) _ _
 
 pub picked-all : (ps : List PointRecord) (vs : List VersionRecord) (t : List PointPicks) → PicksIn vs t → rowsTo points (pickedRow ps t) ≡ rowsTo points (pointRow ps vs)

@@ -6,12 +6,13 @@ use lib.Dec.{eqb}
 use lib.ListN.{length}
 use Rattle.quantity.specs.Limits.{points, versions}
 use Rattle.state.specs.Point.{pointAt}
-use Rattle.state.specs.Selection.{versionOf, selected}
+use Rattle.state.specs.Selection.{versionOf, statusOf, selected}
 use Rattle.state.specs.Status.{statusNumber}
 use Rattle.state.specs.Version.{recordAt}
 use Rattle.state.specs.declared.PointRecord.{PointRecord}
 use Rattle.state.specs.declared.PointState.{PointState}
 use Rattle.state.specs.declared.PointState.the-variants.{Free, Active}
+use Rattle.state.specs.declared.Selection.{Selection}
 use Rattle.state.specs.declared.VersionRecord.{VersionRecord}
 
 -- the rows f 0, .., f (n - 1), one after the other
@@ -21,7 +22,7 @@ rowsTo (suc n) f = rowsTo n f ++ f n
 
 -- how many numbers a point has
 abbrev pub pointNumbers : ℕ
-pointNumbers = 7
+pointNumbers = 9
 
 -- how many numbers a version has
 abbrev pub versionNumbers : ℕ
@@ -35,15 +36,18 @@ pointsPlaces = pointNumbers * points
 abbrev pub versionsPlaces : ℕ
 versionsPlaces = versionNumbers * versions
 
--- a point: 1 where it is active, the day of its activation, kind, area and partner (all 0 of a free one), the version that run 1 selects and
--- the one that run 2 selects (0: none)
-abbrev pub pointPlaces : PointState → (first second : ℕ) → List ℕ
-pointPlaces Free x y = 0 ∷ 0 ∷ 0 ∷ 0 ∷ 0 ∷ x ∷ y ∷ []
-pointPlaces (Active since kind area partner) x y = 1 ∷ since .0 ∷ kind .0 ∷ area .0 ∷ partner .0 ∷ x ∷ y ∷ []
+-- the version that run 1 selects and the one that run 2 selects, then the status of each (0: none)
+abbrev pub selectedPlaces : (first second : Selection) → List ℕ
+selectedPlaces s t = versionOf s ∷ versionOf t ∷ statusOf s ∷ statusOf t ∷ []
+
+-- a point: 1 where it is active, the day of its activation, kind, area and partner (all 0 of a free one), and what the runs select
+abbrev pub pointPlaces : PointState → (first second : Selection) → List ℕ
+pointPlaces Free s t = 0 ∷ 0 ∷ 0 ∷ 0 ∷ 0 ∷ selectedPlaces s t
+pointPlaces (Active since kind area partner) s t = 1 ∷ since .0 ∷ kind .0 ∷ area .0 ∷ partner .0 ∷ selectedPlaces s t
 
 -- the point at an index of the table, which is one less than its number
 abbrev pub pointRow : List PointRecord → List VersionRecord → (at : ℕ) → List ℕ
-pointRow ps vs i = pointPlaces (pointAt ps (suc i)) (versionOf (selected 1 (suc i) vs)) (versionOf (selected 2 (suc i) vs))
+pointRow ps vs i = pointPlaces (pointAt ps (suc i)) (selected 1 (suc i) vs) (selected 2 (suc i) vs)
 
 -- all points
 abbrev pub pointTable : List PointRecord → List VersionRecord → List ℕ

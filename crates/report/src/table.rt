@@ -3,13 +3,14 @@ use crate::Refusals;
 use amend::copies::copy_row;
 use checks::PointPicks;
 use checks::picks::picks_of;
-use quantity::Version;
+use checks::picks::selected_in;
 use quantity::limits::POINTS;
 use quantity::limits::VERSIONS;
 use state::PointRecord;
 use state::PointState;
+use state::Selection;
 use state::VersionRecord;
-use state::selections::or_else;
+use state::selections::status_of;
 use state::selections::version_of;
 use state::statuses::number;
 ghost use mathlib.Core.Path.{_≡_};
@@ -17,11 +18,11 @@ ghost use Prim.Native.Nat.{_+_, _≤_};
 ghost use lib.ListN.{length, take};
 ghost use Rattle.book.specs.Row.{splice};
 ghost use Rattle.replay.specs.Replay.{over};
-ghost use Rattle.state.specs.Selection.{versionOf, inRun};
+ghost use Rattle.checks.specs.Picks.{selectedIn};
 ghost use Rattle.report.specs.Table.{pointsPlaces, versionsPlaces, pointPlaces, pointTable, versionPlaces, versionTable, refusals, firstRefused};
 
 // How many numbers a point has.
-const POINT_NUMBERS: usize = 7;
+const POINT_NUMBERS: usize = 9;
 
 // How many numbers a version has.
 const VERSION_NUMBERS: usize = 4;
@@ -39,11 +40,15 @@ pub fn put_row(out: &mut [u64], at: usize, row: &[u64])
     copy_row(row, 0, row.len(), &mut out[at..end]);
 }
 
-fn point_places(state: PointState, first: Version, second: Version) -> [u64; POINT_NUMBERS]
-    ensures { λ r. ⌜ r ≡ pointPlaces state (first .0) (second .0) ⌝ }
+fn point_places(state: PointState, first: Selection, second: Selection) -> [u64; POINT_NUMBERS]
+    ensures { λ r. ⌜ r ≡ pointPlaces state first second ⌝ }
 {
+    let x = version_of(first).0;
+    let y = version_of(second).0;
+    let s = status_of(first);
+    let t = status_of(second);
     match state {
-        PointState::Free => [0, 0, 0, 0, 0, first.0, second.0],
+        PointState::Free => [0, 0, 0, 0, 0, x, y, s, t],
         PointState::Active {
             since,
             kind,
@@ -55,22 +60,22 @@ fn point_places(state: PointState, first: Version, second: Version) -> [u64; POI
             kind.0 as u64,
             area.0 as u64,
             partner.0 as u64,
-            first.0,
-            second.0,
+            x,
+            y,
+            s,
+            t,
         ],
     }
 }
 
-// A point's row, with what both runs select for it.
+// A point's row, with what both runs select of it.
 fn point_row(state: PointState, picks: PointPicks) -> [u64; POINT_NUMBERS]
-    ensures { λ r. ⌜ r ≡ pointPlaces state (versionOf (inRun 1 (picks .first) (picks .second))) (versionOf (inRun 2 (picks .first) (picks .second))) ⌝ }
+    ensures { λ r. ⌜ r ≡ pointPlaces state (selectedIn 1 picks) (selectedIn 2 picks) ⌝ }
 {
-    let first = picks.first;
-    let second = picks.second;
-    point_places(state, version_of(first), version_of(or_else(second, first)))
+    point_places(state, selected_in(picks, 1), selected_in(picks, 2))
 }
 
-// Every point, seven numbers each. The selections of all points come from one walk over the versions.
+// Every point, nine numbers each. The selections of all points come from one walk over the versions.
 pub fn put_points(
     out: &mut [u64],
     points: [PointRecord; POINTS as usize],

@@ -4,25 +4,26 @@ use Prim.Native.Nat.{ℕ, _≤_, _<_}
 use mathlib.Core.Path.{_≡_, refl, sym, ap, _∙_, subst}
 use mathlib.Core.Bool.{Bool, true, false, cond, _&&_, and-false, false≢true}
 use mathlib.Core.List.{List}
+use native.Mathlib.Decide.{ℕ-discrete}
 use native.Mathlib.Numerals.{add-one}
 use native.Mathlib.Omega.{arith}
 use borrow.Author.Tests.{eqb-true, eq-eqb, ne-eqb}
 use lib.Dec.{eqb}
-use lib.ListN.{length, take, set}
+use lib.ListN.{length, take, set, length-map, List·getD-map}
 use lib.Seq.{length-take-le, take-set-lt, take-suc-set}
 use Rattle.quantity.proofs.Tests.{by-test, and-left, and-right, and-both}
 use Rattle.state.proofs.Lists.{take-mapFirst}
-use Rattle.state.proofs.Picks.{best-set, best-comes, best-map, held-right, own-highest}
+use Rattle.state.proofs.Picks.{best-set, best-comes, reread, best-reread, held-right, own-highest, own-tells}
 use Rattle.state.specs.Change.{submitted, confirm, noticed, settle, settledBy, submittedDesk, noticedDesk, settledDesk}
 use Rattle.state.specs.Desk.{versionsIn}
-use Rattle.state.specs.Selection.{rowAt, raiseEarlier, versionOf, isCounted, own, IsHighest, Highest}
+use Rattle.state.specs.Selection.{rowAt, raiseEarlier, versionOf, isCounted, own, withStatus, SameVersion, IsHighest, Highest}
 use Rattle.state.specs.Status.{counts, isCheck, confirmedStatus, settledStatus}
-use Rattle.state.specs.Version.{restatus, recordAt, isAt, isVersion, held, HeldIn}
+use Rattle.state.specs.Version.{emptyVersion, restatus, recordAt, isAt, isVersion, held, HeldIn}
 use Rattle.state.specs.declared.Desk.{Desk}
 use Rattle.state.specs.declared.Held.{Held}
 use Rattle.state.specs.declared.Held.the-variants.{Absent, Has}
 use Rattle.state.specs.declared.Selection.{Selection}
-use Rattle.state.specs.declared.Selection.the-variants.{Selected}
+use Rattle.state.specs.declared.Selection.the-variants.{None, Selected}
 use Rattle.state.specs.declared.Status.{Status}
 use Rattle.state.specs.declared.Status.the-variants.{Check, Settlement, Settled, Correction, CorrectionSettled}
 use Rattle.state.specs.declared.VersionRecord.{VersionRecord}
@@ -58,7 +59,7 @@ notice-own run c p x d i v vs e check =
     (by-test (λ (r : Selection). own run p (set vs i (restatus s v)) ≡ r) (counts run s) (raiseEarlier (own run p vs) (rowAt i (restatus s v))) (own run p vs)
     (λ on. best-comes f vs i (restatus s v) (h .within) off (rw (here, on))
     (λ j l t n. false≢true (sym (h .first j l) ∙ and-both (isAt p (recordAt vs j)) _ (and-left (isAt p (recordAt vs j)) _ t) (eq-eqb (recordAt vs j .version .0) x (n ∙ number)))))
-    (λ on. best-set f vs i (restatus s v) (rw (on, and-false (isAt p v)) (sym off)) (λ k. ap (rowAt k) (sym (h .here)))))
+    (λ on. best-set f vs i (restatus s v) off (rw (on, and-false (isAt p v)))))
 
 -- a notice at one point leaves the selection of every other
 pub notice-other : (run q c p x y d : ℕ) (vs : List VersionRecord) → (p ≡ q → ⊥) → own run q (noticed c p x y d vs) ≡ own run q vs
@@ -71,7 +72,7 @@ notice-other run q c p x y d vs ne = go (held p x vs) (held-right p x vs)
         let e = eqb-true (v .point .0) p (and-left (isAt p v) _ found) in
         let off = ne-eqb (v .point .0) q (λ j. ne (sym e ∙ j)) in
         by-test (λ (l : List VersionRecord). own run q l ≡ own run q vs) (eqb y 1 && isCheck (v .status)) (set vs i (restatus (confirmedStatus c d) v)) vs
-        (λ _. best-set (isCounted run q) vs i (restatus (confirmedStatus c d) v) (rw (k .here, off)) (λ j. ap (rowAt j) (sym (k .here))))
+        (λ _. best-set (isCounted run q) vs i (restatus (confirmedStatus c d) v) (rw (k .here, off)) (rw off))
         (λ _. refl)
 
 -- ---- a settle
@@ -84,21 +85,20 @@ settled-counts run r Settled e = rw e
 settled-counts run r Correction e = rw (eqb-true r 2 e)
 settled-counts run r CorrectionSettled e = rw (eqb-true r 2 e)
 
+-- no status counts in two runs
+counts-apart : (run r : ℕ) → (run ≡ r → ⊥) → (s : Status) → counts run s ≡ true → counts r s ≡ false
+counts-apart run r ne Check e = refl
+counts-apart run r ne Settlement e = ne-eqb r 1 (λ z. ne (eqb-true run 1 e ∙ sym z))
+counts-apart run r ne Settled e = ne-eqb r 1 (λ z. ne (eqb-true run 1 e ∙ sym z))
+counts-apart run r ne Correction e = ne-eqb r 2 (λ z. ne (eqb-true run 2 e ∙ sym z))
+counts-apart run r ne CorrectionSettled e = ne-eqb r 2 (λ z. ne (eqb-true run 2 e ∙ sym z))
+
 module _ (r : ℕ) (vs : List VersionRecord) where
   settle-counted : (run p : ℕ) (v : VersionRecord) → isCounted run p (settle r vs v) ≡ isCounted run p v
   unfolding settle
   settle-counted run p v =
       by-test (λ (w : VersionRecord). isCounted run p w ≡ isCounted run p v) (counts r (v .status) && eqb (v .version .0) (versionOf (own r (v .point .0) vs))) (restatus (settledStatus r) v) v
       (λ e. rw (settled-counts run r (v .status) (and-left (counts r (v .status)) _ e))) (λ _. refl)
-
-  settle-row : (i : ℕ) (v : VersionRecord) → rowAt i (settle r vs v) ≡ rowAt i v
-  unfolding settle
-  settle-row i v =
-      by-test (λ (w : VersionRecord). rowAt i w ≡ rowAt i v) (counts r (v .status) && eqb (v .version .0) (versionOf (own r (v .point .0) vs))) (restatus (settledStatus r) v) v (λ _. refl) (λ _. refl)
-
-  -- 2 restated as 3, or 4 as 5, leaves all selections, of both runs
-  pub settle-own : (run p : ℕ) → own run p (settledBy r vs) ≡ own run p vs
-  settle-own run p = best-map (isCounted run p) vs (settle r vs) (settle-counted run p) settle-row
 
   -- each selected version is restated
   pub settle-selected : (p : ℕ) (s : VersionRow) → own r p vs ≡ Selected s → settle r vs (recordAt vs (s .at)) ≡ restatus (settledStatus r) (recordAt vs (s .at))
@@ -118,6 +118,57 @@ module _ (r : ℕ) (vs : List VersionRecord) where
   pub settle-lower : (v : VersionRecord) → v .version .0 < versionOf (own r (v .point .0) vs) → settle r vs v ≡ v
   unfolding settle
   settle-lower v h = rw (ne-eqb (v .version .0) (versionOf (own r (v .point .0) vs)) (λ e. omega arith), and-false)
+
+  settle-number : (v : VersionRecord) → settle r vs v .version .0 ≡ v .version .0
+  unfolding settle
+  settle-number v =
+      by-test (λ (w : VersionRecord). w .version .0 ≡ v .version .0) (counts r (v .status) && eqb (v .version .0) (versionOf (own r (v .point .0) vs))) (restatus (settledStatus r) v) v (λ _. refl) (λ _. refl)
+
+  -- every record by itself
+  pub settle-at : (i : ℕ) → recordAt (settledBy r vs) i ≡ settle r vs (recordAt vs i)
+  unfolding settle
+  settle-at i = List·getD-map (settle r vs) vs i emptyVersion
+
+  -- 2 restated as 3, or 4 as 5, leaves the place of all selections, of both runs
+  settle-places : (run p : ℕ) → own run p (settledBy r vs) ≡ reread (settledBy r vs) (own run p vs)
+  settle-places run p =
+      best-reread (isCounted run p) vs (settledBy r vs) (length-map vs (settle r vs))
+      (λ i. ap (isCounted run p) (settle-at i) ∙ settle-counted run p (recordAt vs i))
+      (λ i. ap (λ (v : VersionRecord). v .version .0) (settle-at i) ∙ settle-number (recordAt vs i))
+
+  -- each selection of the run settled gets its status, and nothing else of it changes
+  pub settle-own : (p : ℕ) → own r p (settledBy r vs) ≡ withStatus (settledStatus r) (own r p vs)
+  settle-own p = settle-places r p ∙ go (own r p vs) refl
+    where
+      go : (s : Selection) → own r p vs ≡ s → reread (settledBy r vs) s ≡ withStatus (settledStatus r) s
+      go None e = refl
+      go (Selected s) e =
+          let t = own-tells r p vs s e in
+          ap (λ (v : VersionRecord). Selected (rowAt (s .at) v)) (settle-at (s .at) ∙ settle-selected p s e) ∙ rw (t .version, t .row)
+
+  -- and those of another run stay
+  pub settle-apart : (run p : ℕ) → (run ≡ r → ⊥) → own run p (settledBy r vs) ≡ own run p vs
+  settle-apart run p ne = settle-places run p ∙ go (own run p vs) refl
+    where
+      go : (s : Selection) → own run p vs ≡ s → reread (settledBy r vs) s ≡ s
+      go None e = refl
+      go (Selected s) e =
+          let v = recordAt vs (s .at) in
+          let h : IsHighest (isCounted run p) vs (length vs) s = subst (Highest (isCounted run p) vs (length vs)) e (own-highest run p vs) in
+          let off = counts-apart run r ne (v .status) (and-right (isAt p v) _ (h .passes)) in
+          ap Selected (ap (rowAt (s .at)) (settle-at (s .at) ∙ settle-uncounted v off) ∙ h .here)
+
+  -- so in both runs the version selected is the same
+  pub settle-same : (run p : ℕ) → SameVersion (own run p (settledBy r vs)) (own run p vs)
+  settle-same run p = go (ℕ-discrete run r)
+    where
+      twice : (s : Selection) → SameVersion (withStatus (settledStatus r) s) s
+      twice None = refl
+      twice (Selected q) = refl
+
+      go : Dec (run ≡ r) → SameVersion (own run p (settledBy r vs)) (own run p vs)
+      go (yes e) = rw e (ap (withStatus Check) (settle-own p) ∙ twice (own r p vs))
+      go (no ne) = ap (withStatus Check) (settle-apart run p ne)
 
 -- ---- the desk's table, and the versions held
 

@@ -34,12 +34,6 @@ module _ {A B : Type 0} (f : B → ℕ → A → B) where
       let e : length (take i l) ≡ i = length-take-le i l (omega arith) in
       rw (add-one, take-suc l i d, walk-last b (take i l) (getD l i d), e)
 
-  -- a change of the elements that the walk does not see
-  pub walk-map : (g : A → A) → ((b : B) (i : ℕ) (x : A) → f b i (g x) ≡ f b i x) → (b : B) (i : ℕ) (l : List A) → walk f b i (map g l) ≡ walk f b i l
-  unfolding walk
-  walk-map g e b i [] = refl
-  walk-map g e b i (x ∷ l) = ap (λ (c : B). walk f c (suc i) (map g l)) (e b i x) ∙ walk-map g e (f b i x) (suc i) l
-
   -- a change of one element that the walk does not see
   pub walk-set : (l : List A) (k : ℕ) (y d : A) → ((b : B) (i : ℕ) → f b i y ≡ f b i (getD l k d)) → (b : B) (i : ℕ) → walk f b i (set l k y) ≡ walk f b i l
   unfolding walk

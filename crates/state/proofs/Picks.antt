@@ -3,21 +3,22 @@
 use Prim.Native.Nat.{ℕ, suc, _≤_, _<_}
 use mathlib.Core.Path.{_≡_, refl, sym, ap, _∙_, subst}
 use mathlib.Core.Bool.{Bool, true, false, cond, _||_, and-false, or-false, or-assoc, false≢true}
-use mathlib.Core.List.{List, [], _∷_, map}
+use mathlib.Core.List.{List, [], _∷_}
+use mathlib.Core.Logic.{_⊎_, inl, inr}
 use native.Mathlib.Decide.{ℕ-discrete}
 use native.Mathlib.Omega.{arith}
-use borrow.Author.Tests.{leb-true, leb-false, ltb-true, ltb-false, ne-eqb, lt-ltb}
+use borrow.Author.Tests.{leb-true, leb-false, ltb-true, ltb-false, eqb-true, ne-eqb, lt-ltb}
 use lib.Dec.{leb, ltb, eqb}
 use lib.ListN.{length, set, length-set}
 use lib.Seq.{getD-set-same, getD-set-other}
-use Rattle.quantity.proofs.Tests.{by-test}
+use Rattle.quantity.proofs.Tests.{by-test, and-left, and-right}
 use Rattle.quantity.specs.Lists.{any}
-use Rattle.state.proofs.Lists.{walk-last, walk-map, walk-set, walk-keeps}
+use Rattle.state.proofs.Lists.{walk-last, walk-set, walk-keeps}
 use Rattle.state.specs.Change.{submitted}
-use Rattle.state.specs.Selection.{rowAt, raise, raiseEarlier, raiseIf, best, isSelected, versionOf, isCounted, own, selected, IsHighest, Highest}
+use Rattle.state.specs.Selection.{rowAt, raise, raiseEarlier, raiseIf, best, isSelected, versionOf, isCounted, own, orElse, withStatus, SameVersion, inRun, selected, IsHighest, Highest, Tells}
 use Rattle.state.specs.Status.{statusNumber, counts}
 use Rattle.state.specs.Walk.{walk}
-use Rattle.state.specs.Version.{emptyVersion, recordAt, isVersion, orHeld, held, HeldIn}
+use Rattle.state.specs.Version.{emptyVersion, recordAt, isAt, isVersion, orHeld, held, HeldIn}
 use Rattle.state.specs.declared.Held.{Held}
 use Rattle.state.specs.declared.Held.the-variants.{Absent, Has}
 use Rattle.state.specs.declared.Selection.{Selection}
@@ -102,17 +103,12 @@ module _ (f : VersionRecord → Bool) (vs : List VersionRecord) where
       go None k = refl
       go (Selected r) k = rw (lt-ltb (r .version .0) (v .version .0) k)
 
-  -- a change of the records that leaves number, row of values and test leaves the pick
-  pub best-map : (g : VersionRecord → VersionRecord) → ((v : VersionRecord) → f (g v) ≡ f v) → ((i : ℕ) (v : VersionRecord) → rowAt i (g v) ≡ rowAt i v) → best f (map g vs) ≡ best f vs
-  unfolding best
-  best-map g p q = walk-map (raiseIf f) g (λ s i v. ap (λ (r : VersionRow). cond (f (g v)) (raise s r) s) (q i v) ∙ ap (λ (t : Bool). cond t (raise s (rowAt i v)) s) (p v)) None 0 vs
-
-  -- and so does a change of one record
-  pub best-set : (k : ℕ) (w : VersionRecord) → f w ≡ f (recordAt vs k) → ((i : ℕ) → rowAt i w ≡ rowAt i (recordAt vs k)) → best f (set vs k w) ≡ best f vs
+  -- a record that does not pass, replaced by one that does not, leaves the pick
+  pub best-set : (k : ℕ) (w : VersionRecord) → f (recordAt vs k) ≡ false → f w ≡ false → best f (set vs k w) ≡ best f vs
   unfolding best
   best-set k w p q =
       walk-set (raiseIf f) vs k w emptyVersion
-      (λ s i. ap (λ (r : VersionRow). cond (f w) (raise s r) s) (q i) ∙ ap (λ (t : Bool). cond t (raise s (rowAt i (recordAt vs k))) s) p) None 0
+      (λ s i. ap (λ (t : Bool). cond t (raise s (rowAt i w)) s) q ∙ sym (ap (λ (t : Bool). cond t (raise s (rowAt i (recordAt vs k))) s) p)) None 0
 
 abbrev number : VersionRow → ℕ
 number r = r .version .0
@@ -133,6 +129,28 @@ highest-one f vs n (Selected r) (Selected q) h k =
         let a : recordAt vs (r .at) .version .0 ≡ r .version .0 = ap number (h .here) in
         let b : recordAt vs (q .at) .version .0 ≡ q .version .0 = ap number (k .here) in
         omega (arith, k .first (r .at) l (h .passes), h .most (q .at) (k .within) (k .passes))
+
+-- the same place of another table
+abbrev pub reread : List VersionRecord → Selection → Selection
+reread ws None = None
+reread ws (Selected r) = Selected (rowAt (r .at) (recordAt ws (r .at)))
+
+-- a change of the records that leaves their numbers and the test leaves the place of the pick
+pub best-reread : (f : VersionRecord → Bool) (vs ws : List VersionRecord) → length ws ≡ length vs → ((i : ℕ) → f (recordAt ws i) ≡ f (recordAt vs i))
+    → ((i : ℕ) → recordAt ws i .version .0 ≡ recordAt vs i .version .0) → best f ws ≡ reread ws (best f vs)
+best-reread f vs ws long passing numbers = highest-one f ws (length ws) _ _ (best-highest f ws) (go (best f vs) (best-highest f vs))
+  where
+    go : (s : Selection) → Highest f vs (length vs) s → Highest f ws (length ws) (reread ws s)
+    go None h = λ j l. passing j ∙ h j (omega arith)
+    go (Selected r) h =
+        let top : recordAt ws (r .at) .version .0 ≡ r .version .0 = numbers (r .at) ∙ ap number (h .here) in
+        record {
+          within = omega (arith, h .within);
+          here = refl;
+          passes = passing (r .at) ∙ h .passes;
+          most = λ j l t. omega (arith, numbers j, h .most j (omega arith) (sym (passing j) ∙ t));
+          first = λ j l t. omega (arith, numbers j, h .first j l (sym (passing j) ∙ t));
+        }
 
 module _ (f : VersionRecord → Bool) (vs : List VersionRecord) (k : ℕ) (w : VersionRecord) (in-table : k < length vs) where
   -- what holds of the record set and of every other
@@ -241,6 +259,55 @@ counts-second CorrectionSettled = refl
 pub own-highest : (run p : ℕ) (vs : List VersionRecord) → Highest (isCounted run p) vs (length vs) (own run p vs)
 own-highest run p vs = best-highest (isCounted run p) vs
 
+-- "The lookup of a point's selected version for a run gives its status along with it"
+pub own-tells : (run p : ℕ) (vs : List VersionRecord) (r : VersionRow) → own run p vs ≡ Selected r → Tells p vs r
+own-tells run p vs r e =
+    let h : IsHighest (isCounted run p) vs (length vs) r = subst (Highest (isCounted run p) vs (length vs)) e (own-highest run p vs) in
+    record {
+      within = h .within;
+      point = eqb-true (recordAt vs (r .at) .point .0) p (and-left (isAt p (recordAt vs (r .at))) _ (h .passes));
+      version = ap (λ (x : VersionRow). x .version) (h .here);
+      row = ap (λ (x : VersionRow). x .row) (h .here);
+      status = ap (λ (x : VersionRow). x .status) (h .here);
+    }
+
+-- of either run, the fallback too
+pub selected-tells : (run p : ℕ) (vs : List VersionRecord) (r : VersionRow) → selected run p vs ≡ Selected r → Tells p vs r
+selected-tells run p vs r e = go (eqb run 1) (own 2 p vs) refl e
+  where
+    go : (t : Bool) (s : Selection) → own 2 p vs ≡ s → cond t (own 1 p vs) (orElse s (own 1 p vs)) ≡ Selected r → Tells p vs r
+    go true s q z = own-tells 1 p vs r z
+    go false None q z = own-tells 1 p vs r z
+    go false (Selected x) q z = own-tells 2 p vs r (q ∙ z)
+
+-- what is told of a version counted in the run
+own-counts : (run p : ℕ) (vs : List VersionRecord) (r : VersionRow) → own run p vs ≡ Selected r → counts run (r .status) ≡ true
+own-counts run p vs r e =
+    let h : IsHighest (isCounted run p) vs (length vs) r = subst (Highest (isCounted run p) vs (length vs)) e (own-highest run p vs) in
+    ap (counts run) (sym (own-tells run p vs r e .status)) ∙ and-right (isAt p (recordAt vs (r .at))) _ (h .passes)
+
+-- run 1's selection has status 2 or 3
+pub first-status : (p : ℕ) (vs : List VersionRecord) (r : VersionRow) → own 1 p vs ≡ Selected r → (statusNumber (r .status) ≡ 2) ⊎ (statusNumber (r .status) ≡ 3)
+first-status p vs r e = go (r .status) (own-counts 1 p vs r e)
+  where
+    go : (s : Status) → counts 1 s ≡ true → (statusNumber s ≡ 2) ⊎ (statusNumber s ≡ 3)
+    go Check z = absurd (false≢true z)
+    go Settlement z = inl refl
+    go Settled z = inr refl
+    go Correction z = absurd (false≢true z)
+    go CorrectionSettled z = absurd (false≢true z)
+
+-- and run 2's own 4 or 5
+pub second-status : (p : ℕ) (vs : List VersionRecord) (r : VersionRow) → own 2 p vs ≡ Selected r → (statusNumber (r .status) ≡ 4) ⊎ (statusNumber (r .status) ≡ 5)
+second-status p vs r e = go (r .status) (own-counts 2 p vs r e)
+  where
+    go : (s : Status) → counts 2 s ≡ true → (statusNumber s ≡ 4) ⊎ (statusNumber s ≡ 5)
+    go Check z = absurd (false≢true z)
+    go Settlement z = absurd (false≢true z)
+    go Settled z = absurd (false≢true z)
+    go Correction z = inl refl
+    go CorrectionSettled z = inr refl
+
 -- "Run 1 selects for a point the highest version of status 2 or 3."
 pub first-run : (p : ℕ) (vs : List VersionRecord) → selected 1 p vs ≡ own 1 p vs
 first-run p vs = refl
@@ -256,6 +323,22 @@ second-falls-back p vs e = rw e
 -- where run 1's and run 2's own stay, so does what each run selects
 pub selected-kept : (run p : ℕ) (vs ws : List VersionRecord) → ((r : ℕ) → own r p ws ≡ own r p vs) → selected run p ws ≡ selected run p vs
 selected-kept run p vs ws e = rw (e 1, e 2)
+
+-- and where they stay but for their status, so does what each run selects
+pub selected-same : (run p : ℕ) (vs ws : List VersionRecord) → ((r : ℕ) → SameVersion (own r p ws) (own r p vs)) → SameVersion (selected run p ws) (selected run p vs)
+selected-same run p vs ws e = bare (own 1 p ws) (own 2 p ws) ∙ rw (e 1, e 2) (sym (bare (own 1 p vs) (own 2 p vs)))
+  where
+    bare : (s t : Selection) → withStatus Check (inRun run s t) ≡ inRun run (withStatus Check s) (withStatus Check t)
+    bare s None = go (eqb run 1)
+      where
+        go : (b : Bool) → withStatus Check (cond b s s) ≡ cond b (withStatus Check s) (withStatus Check s)
+        go true = refl
+        go false = refl
+    bare s (Selected r) = go (eqb run 1)
+      where
+        go : (b : Bool) → withStatus Check (cond b s (Selected r)) ≡ cond b (withStatus Check s) (withStatus Check (Selected r))
+        go true = refl
+        go false = refl
 
 -- a submission at one point leaves the selection of every other
 pub submit-other : (run q : ℕ) (v : VersionRecord) (vs : List VersionRecord) → (v .point .0 ≡ q → ⊥) → own run q (submitted v vs) ≡ own run q vs

@@ -1,22 +1,24 @@
 -- Statuses by their numbers: what a submission, a notice and a settle give. Assumes nothing.
 use Prim.Native.Nat.{ℕ, _≤_, _<_}
-use mathlib.Core.Path.{_≡_, refl, ap, _∙_}
+use mathlib.Core.Path.{_≡_, refl, sym, ap, _∙_}
 use mathlib.Core.Bool.{_&&_, _||_, and-false}
 use mathlib.Core.Logic.{_⊎_, inl, inr}
 use mathlib.Core.List.{List}
 use borrow.Author.Tests.{leb-true, leb-false, ne-eqb}
 use lib.Dec.{leb, eqb}
-use lib.ListN.{length-map, List·getD-map}
+use lib.ListN.{length-map}
 use Rattle.quantity.proofs.Tests.{by-test}
 use Rattle.state.specs.Change.{settle, settledBy}
-use Rattle.state.specs.Selection.{versionOf, own}
+use Rattle.state.specs.Selection.{versionOf, own, withStatus}
 use Rattle.state.specs.Settling.{Settles}
 use Rattle.state.specs.Status.{statusNumber, counts, submittedStatus, confirmedStatus, settledStatus}
-use Rattle.state.specs.Version.{emptyVersion, recordAt, restatus}
+use Rattle.state.specs.Version.{recordAt, restatus}
+use Rattle.state.specs.declared.Selection.{Selection}
+use Rattle.state.specs.declared.Selection.the-variants.{None, Selected}
 use Rattle.state.specs.declared.Status.{Status}
 use Rattle.state.specs.declared.Status.the-variants.{Check, Settlement, Correction}
 use Rattle.state.specs.declared.VersionRecord.{VersionRecord}
-use Rattle.state.proofs.Kept.{settle-selected}
+use Rattle.state.proofs.Kept.{settle-selected, settle-at, settle-own}
 use Rattle.state.proofs.Picks.{counts-first, counts-second}
 
 -- "Status 2 if day ≤ F, else 1."
@@ -34,22 +36,27 @@ confirmed-number c d =
 -- ---- "Run 1: each selected version gets 3. Run 2: each own one gets 5."
 
 module _ (run : ℕ) (vs : List VersionRecord) where
-  at-index : (i : ℕ) → recordAt (settledBy run vs) i ≡ settle run vs (recordAt vs i)
-  unfolding settle
-  at-index i = List·getD-map (settle run vs) vs i emptyVersion
-
   settles : (status settled : ℕ) → statusNumber (settledStatus run) ≡ settled
       → ((s : Status) → counts run s ≡ (eqb (statusNumber s) status || eqb (statusNumber s) settled)) → Settles run status settled vs (settledBy run vs)
   unfolding settle
   settles status settled number counted =
       record {
         size = length-map vs (settle run vs);
-        picked = λ p r e. ap (λ (v : VersionRecord). statusNumber (v .status)) (at-index (r .at) ∙ settle-selected run vs p r e) ∙ number;
-        uncounted = λ i n m. at-index i ∙ rw (counted (recordAt vs i .status), ne-eqb (statusNumber (recordAt vs i .status)) status n, ne-eqb (statusNumber (recordAt vs i .status)) settled m);
-        lower = λ i n. at-index i ∙ rw (ne-eqb (recordAt vs i .version .0) (versionOf (own run (recordAt vs i .point .0) vs)) n, and-false (counts run (recordAt vs i .status)));
-        same = λ i. ap (restatus Check) (at-index i) ∙ kept (recordAt vs i);
+        picked = λ p r e. ap (λ (v : VersionRecord). statusNumber (v .status)) (settle-at run vs (r .at) ∙ settle-selected run vs p r e) ∙ number;
+        told = λ p r e. ap statusNumber (ap statusIn (sym e ∙ settle-own run vs p) ∙ restated (own run p vs)) ∙ number;
+        uncounted = λ i n m. settle-at run vs i ∙ rw (counted (recordAt vs i .status), ne-eqb (statusNumber (recordAt vs i .status)) status n, ne-eqb (statusNumber (recordAt vs i .status)) settled m);
+        lower = λ i n. settle-at run vs i ∙ rw (ne-eqb (recordAt vs i .version .0) (versionOf (own run (recordAt vs i .point .0) vs)) n, and-false (counts run (recordAt vs i .status)));
+        same = λ i. ap (restatus Check) (settle-at run vs i) ∙ kept (recordAt vs i);
       }
     where
+      statusIn : Selection → Status
+      statusIn None = settledStatus run
+      statusIn (Selected r) = r .status
+
+      restated : (s : Selection) → statusIn (withStatus (settledStatus run) s) ≡ settledStatus run
+      restated None = refl
+      restated (Selected r) = refl
+
       kept : (v : VersionRecord) → restatus Check (settle run vs v) ≡ restatus Check v
       kept v =
           by-test (λ (w : VersionRecord). restatus Check w ≡ restatus Check v) (counts run (v .status) && eqb (v .version .0) (versionOf (own run (v .point .0) vs))) (restatus (settledStatus run) v) v

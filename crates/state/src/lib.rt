@@ -98,14 +98,15 @@ pub struct Desk {
     pub versions: [VersionRecord; VERSIONS as usize],
 }
 
-// A row of the version table: its index, the number of the version there, and the version's row of values.
+// A row of the version table: its index, the number of the version there, its row of values and its status.
 pub struct VersionRow {
     pub at: u64,
     pub version: Version,
     pub row: Row,
+    pub status: Status,
 }
 
-// The version that a run selects for a point, if there is one.
+// The version that a run selects for a point with its status, if there is one.
 pub enum Selection {
     None,
     Selected(VersionRow),

@@ -3,11 +3,12 @@ use crate::Selection;
 use crate::VersionRecord;
 use crate::VersionRow;
 use crate::statuses::counts_in;
+use crate::statuses::number;
 use quantity::PointNo;
 use quantity::Version;
 ghost use mathlib.Core.Path.{_≡_};
 ghost use mathlib.Core.Bool.{cond};
-ghost use Rattle.state.specs.Selection.{rowAt, raise, raiseEarlier, isCounted, isSelected, versionOf, orElse};
+ghost use Rattle.state.specs.Selection.{rowAt, raise, raiseEarlier, isCounted, isSelected, versionOf, statusOf, orElse};
 ghost use Rattle.state.specs.Version.{isAt, isVersion};
 
 pub fn is_at(v: VersionRecord, point: PointNo) -> bool
@@ -35,7 +36,13 @@ pub fn row_at(at: u64, v: VersionRecord) -> VersionRow
 {
     let version = v.version;
     let row = v.row;
-    VersionRow { at, version, row }
+    let status = v.status;
+    VersionRow {
+        at,
+        version,
+        row,
+        status,
+    }
 }
 
 // A version beside the highest so far.
@@ -93,6 +100,16 @@ pub fn version_of(s: Selection) -> Version
     };
     let version = row.version;
     version
+}
+
+pub fn status_of(s: Selection) -> u64
+    ensures { λ r. ⌜ r ≡ statusOf s ⌝ }
+{
+    let Selection::Selected(row) = s else {
+        return 0;
+    };
+    let status = row.status;
+    number(status)
 }
 
 pub fn or_else(s: Selection, t: Selection) -> Selection

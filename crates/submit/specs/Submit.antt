@@ -25,13 +25,13 @@ use Rattle.model.specs.declared.Due.{Due}
 use Rattle.model.specs.declared.Turn.{Turn}
 use Rattle.amend.specs.Lent.{RoomIn}
 
--- the row of the version table that a submission takes
-abbrev pub rowBy : Frame → Version → VersionRow
-rowBy f x = record { at = f .count; version = x; row = record { 0 = rowsUsed f } }
+-- the row of the version table that a submission takes, with the status that the day gives
+abbrev pub rowBy : Frame → Version → (day : ℕ) → VersionRow
+rowBy f x day = record { at = f .count; version = x; row = record { 0 = rowsUsed f }; status = submittedStatus (f .opening .first .0) day }
 
--- a run's own selection then, where the status that the day gives counts in it
+-- a run's own selection then, where that status counts in it
 abbrev pub ownBy : (run : ℕ) → Frame → Version → (day : ℕ) → Selection → Selection
-ownBy run f x day s = cond (counts run (submittedStatus (f .opening .first .0) day)) (raise s (rowBy f x)) s
+ownBy run f x day s = cond (counts run (submittedStatus (f .opening .first .0) day)) (raise s (rowBy f x day)) s
 
 -- what a submission makes of the selections found
 abbrev pub turnBy : Frame → Version → (day : ℕ) → Survey → Turn

@@ -74,6 +74,7 @@ pub fn submit_turn(f: Frame, s: Survey, version: Version, day: Day) -> Turn
         at: f.count,
         version,
         row: Row(f.count as u16),
+        status,
     };
     let old1 = s.first;
     let old2 = s.second;

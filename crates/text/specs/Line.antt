@@ -20,3 +20,8 @@ groupLine r q g v =
 -- `T run quarter sum`
 abbrev pub totalLine : (run quarter : ℕ) (sum : ℤ) → List ℕ
 totalLine r q v = (84 ∷ []) ++ (blank ∷ decimal r) ++ (blank ∷ decimal q) ++ (blank ∷ signedText v) ++ (newline ∷ [])
+
+-- `S run point version status`
+abbrev pub selectionLine : (run point version status : ℕ) → List ℕ
+selectionLine r p x s =
+    (83 ∷ []) ++ (blank ∷ decimal r) ++ (blank ∷ decimal p) ++ (blank ∷ decimal x) ++ (blank ∷ decimal s) ++ (newline ∷ [])

@@ -8,7 +8,7 @@ ghost use Prim.Native.Nat.{_+_, _≤_};
 ghost use lib.ListN.{length};
 ghost use Rattle.quantity.specs.Word.{signed};
 ghost use Rattle.text.specs.Text.{Put};
-ghost use Rattle.text.specs.Line.{answerLine, refusalLine, groupLine, totalLine};
+ghost use Rattle.text.specs.Line.{answerLine, refusalLine, groupLine, totalLine, selectionLine};
 
 pub fn answer_line(out: &mut [u8], at: usize, number: u64, answer: u64) -> usize
     requires { ⌜ at + 42 ≤ length (now out) ⌝ }
@@ -57,4 +57,23 @@ pub fn total_line(out: &mut [u8], at: usize, run: u64, quarter: u64, sum: WattHo
     let c = put_field(out, b, quarter);
     let d = put_figure(out, c, sum);
     put_byte(out, d, b'\n')
+}
+
+pub fn selection_line(
+    out: &mut [u8],
+    at: usize,
+    run: u64,
+    point: u64,
+    version: u64,
+    status: u64,
+) -> usize
+    requires { ⌜ at + 86 ≤ length (now out) ⌝ }
+    ensures { λ r. ⌜ Put 86 at (selectionLine run point version status) (now (out .entry)) (now (out .exit)) r ⌝ }
+{
+    let a = put_byte(out, at, b'S');
+    let b = put_field(out, a, run);
+    let c = put_field(out, b, point);
+    let d = put_field(out, c, version);
+    let e = put_field(out, d, status);
+    put_byte(out, e, b'\n')
 }

@@ -22,7 +22,7 @@ slice-aggregate-run : tie.Need-slice-aggregate-run
 slice-aggregate-run c = search needs
 
 slice-aggregate-run-2 : tie.Need-slice-aggregate-run-2
-slice-aggregate-run-2 c = sym (length-replicate {A = ℕ} 286749 0)
+slice-aggregate-run-2 c = sym (length-replicate {A = ℕ} 330781 0)
 
 run-requires : tie.Need-run-requires
 run-requires c κs = search needs

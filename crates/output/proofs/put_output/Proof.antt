@@ -22,9 +22,9 @@ put-answers-requires c κs =
 
 put-ending-requires : tie.Need-put-ending-requires
 put-ending-requires c κs =
-    let p = c .before .before .before .before .before .before .before .before .before .before .before .before .before .before .before .before .before .before .before .before .before .before .before .before .before .before .before .before .before .before .before .before .before .pre in
-    let R = c .before .before .before .before .before .before .before .before .before .before .before .before .before .before .before .before .before .before .before .before .replay .ensures in
-    (quarters-few _ _ _ _ _ _ _ _ (p .0) (p .2) R, summed _ _ _ _ _ _ _ _ (p .0) (p .2) R (λ i. omega (arith, c .before .before .before .before .before .before .before .before .before .before .before .before .before .before .before .before .slice-known8 .given i)), omega (arith, answered-few _ _ _ _ _ _ _ _ (p .0) (p .2) R, c .before .before .before .before .put-answers .ensures .few, c .before .before .before .before .put-answers .kept .0, p .1))
+    let p = c .before .before .before .before .before .before .before .before .before .before .before .before .before .before .before .before .before .before .before .before .before .before .before .before .before .before .before .before .before .before .before .before .before .before .pre in
+    let R = c .before .before .before .before .before .before .before .before .before .before .before .before .before .before .before .before .before .before .before .before .before .replay .ensures in
+    (quarters-few _ _ _ _ _ _ _ _ (p .0) (p .2) R, summed _ _ _ _ _ _ _ _ (p .0) (p .2) R (λ i. omega (arith, c .before .before .before .before .before .before .before .before .before .before .before .before .before .before .before .before .before .slice-known8 .given i)), omega (arith, answered-few _ _ _ _ _ _ _ _ (p .0) (p .2) R, c .before .before .before .before .before .put-answers .ensures .few, c .before .before .before .before .before .put-answers .kept .0, p .1))
 
 same-length : tie.Need-same-length
 same-length c = search needs
@@ -46,8 +46,8 @@ same-length-6 c = search needs
 
 returns : tie.Need-returns
 returns c =
-    let p = c .before .before .before .before .before .before .before .before .before .before .before .before .before .before .before .before .before .before .before .before .before .before .before .before .before .before .before .before .before .before .before .before .before .before .before .before .pre in
-    put-as (put-then (c .before .before .before .before .before .before .before .put-answers .ensures) (c .before .before .put-ending .ensures)) (omega (arith, answered-few _ _ _ _ _ _ _ _ (p .0) (p .2) (c .before .before .before .before .before .before .before .before .before .before .before .before .before .before .before .before .before .before .before .before .before .before .before .replay .ensures))) (text-is _ _ _ _ _ _ _ _ (p .0) (p .2) (c .before .before .before .before .before .before .before .before .before .before .before .before .before .before .before .before .before .before .before .before .before .before .before .replay .ensures))
+    let p = c .before .before .before .before .before .before .before .before .before .before .before .before .before .before .before .before .before .before .before .before .before .before .before .before .before .before .before .before .before .before .before .before .before .before .before .before .before .pre in
+    put-as (put-then (c .before .before .before .before .before .before .before .before .put-answers .ensures) (c .before .before .put-ending .ensures)) (omega (arith, answered-few _ _ _ _ _ _ _ _ (p .0) (p .2) (c .before .before .before .before .before .before .before .before .before .before .before .before .before .before .before .before .before .before .before .before .before .before .before .before .replay .ensures))) (text-is _ _ _ _ _ _ _ _ (p .0) (p .2) (c .before .before .before .before .before .before .before .before .before .before .before .before .before .before .before .before .before .before .before .before .before .before .before .before .replay .ensures))
 
 pub put-output-spec : {M : Type 1} → statement M
 put-output-spec =

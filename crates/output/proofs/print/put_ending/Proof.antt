@@ -1,6 +1,5 @@
 -- `put_ending` meets its contract. Assumes nothing.
-use Rattle.text.proofs.Texts.{put-none, put-as}
-use borrow.Author.Needs.{needs}
+use Rattle.text.proofs.Texts.{put-none, put-then, put-as}
 use borrow.Author.Needs.{needs}
 use Rattle.output.proofs.print.put_ending.Statement.{statement}
 use Rattle.output.proofs.print.put_ending.Tie as tie
@@ -10,6 +9,9 @@ enum-told c = search needs
 
 put-month-requires : tie.Need-put-month-requires
 put-month-requires c κs = search needs
+
+put-selections-requires : tie.Need-put-selections-requires
+put-selections-requires c κs = search needs
 
 enum-known-ending : tie.Need-enum-known-ending
 enum-known-ending c = search needs
@@ -27,7 +29,7 @@ same-length : tie.Need-same-length
 same-length c = search needs
 
 returns : tie.Need-returns
-returns c = put-as (c .before .before .put-month .ensures) (search needs) (rw (c .before .before .before .before .enum-told .given .1))
+returns c = put-as (put-then (c .before .before .before .before .before .before .put-month .ensures) (c .before .before .put-selections .ensures)) (search needs) (rw (c .before .before .before .before .before .before .before .before .enum-told .given .1))
 
 same-length-2 : tie.Need-same-length-2
 same-length-2 c = search needs
@@ -44,6 +46,7 @@ put-ending-spec =
     (tie.spec
     enum-told
     put-month-requires
+    put-selections-requires
     enum-known-ending
     number-of-requires
     refusal-line-requires

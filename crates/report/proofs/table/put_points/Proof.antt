@@ -13,7 +13,7 @@ use Rattle.report.proofs.table.put_points.Statement.{statement}
 use Rattle.report.proofs.table.put_points.Tie as tie
 
 abbrev Inv-loop : tie.InvT-loop
-Inv-loop out₀ count points table i₀ out i = (i ≤ 256) × (length out ≡ length out₀) × (1792 ≤ length out₀) × (length points ≡ 256) × (length table ≡ 256) × (out ≡ over (rowsTo i (pickedRow points table)) out₀)
+Inv-loop out₀ count points table i₀ out i = (i ≤ 256) × (length out ≡ length out₀) × (2304 ≤ length out₀) × (length points ≡ 256) × (length table ≡ 256) × (out ≡ over (rowsTo i (pickedRow points table)) out₀)
 
 abbrev μ-loop : tie.MeasureT-loop
 μ-loop out₀ count points table i₀ out i = 256 - i
@@ -69,7 +69,7 @@ loop-again c =
       search needs,
       l .inv .3,
       l .inv .4,
-      rows-more f 7 (picked-wide (a .t2) (s .picks-of .result)) (l .i) (7 * l .i) _ (a .out .now) (l .out) _ refl (r .point-row .ensures) (l .inv .5) (c .before .before .put-row .ensures),
+      rows-more f 9 (picked-wide (a .t2) (s .picks-of .result)) (l .i) (9 * l .i) _ (a .out .now) (l .out) _ refl (r .point-row .ensures) (l .inv .5) (c .before .before .put-row .ensures),
     )
 
 same-length : tie.Need-same-length Inv-loop μ-loop

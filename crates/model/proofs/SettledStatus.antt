@@ -1,0 +1,244 @@
+-- A selected version has the status of a settled one exactly where its run is settled. Assumes nothing.
+use Prim.Native.Nat.{ℕ, _<_}
+use mathlib.Core.Path.{_≡_, refl, sym, _∙_, subst}
+use mathlib.Core.Bool.{Bool, true, false, not, _&&_, _||_, or-true, false≢true}
+use mathlib.Core.Logic.{_⊎_, inl, inr}
+use mathlib.Core.List.{List, [], _∷_, map}
+use native.Mathlib.Decide.{ℕ-discrete}
+use native.Mathlib.Omega.{arith}
+use borrow.Author.Tests.{eqb-true, eq-eqb, ne-eqb, ltb-false, leb-false, not-false}
+use lib.Dec.{leb, eqb}
+use lib.ListN.{length, set}
+use Rattle.quantity.specs.Limits.{runs, runOk, dayOk}
+use Rattle.quantity.specs.Lists.{all, fold}
+use Rattle.quantity.proofs.Lists.{all-at, all-set, all-map}
+use Rattle.quantity.proofs.Tests.{by-test, and-left, or-left, or-right, within-low, within-high}
+use Rattle.state.specs.Change.{submitted, confirm, noticed, settle, settledBy}
+use Rattle.state.specs.Desk.{isOpen, versionsIn}
+use Rattle.state.specs.Selection.{own, orElse, versionOf, Tells}
+use Rattle.state.specs.Status.{statusNumber, counts, isCheck, confirmedStatus, settledStatus}
+use Rattle.state.specs.Version.{emptyVersion, newVersion, restatus, recordAt, held}
+use Rattle.state.specs.declared.Held.{Held}
+use Rattle.state.specs.declared.Held.the-variants.{Absent, Has}
+use Rattle.state.specs.declared.Runs.{Runs}
+use Rattle.state.specs.declared.Selection.{Selection}
+use Rattle.state.specs.declared.Selection.the-variants.{None, Selected}
+use Rattle.state.specs.declared.Status.{Status}
+use Rattle.state.specs.declared.Status.the-variants.{Check, Settlement, Correction}
+use Rattle.state.specs.declared.VersionRecord.{VersionRecord}
+use Rattle.state.specs.declared.VersionRow.{VersionRow}
+use Rattle.state.proofs.Kept.{settle-apart}
+use Rattle.state.proofs.Picks.{own-tells, first-status, second-status}
+use Rattle.state.proofs.Settled.{settles-first, settles-second}
+use Rattle.model.specs.Agreement.{Chained, end, fresh}
+use Rattle.model.specs.Call.{Call, opens, activates, deactivates, submits, notices, assigns, shows, asks, settles, Stores, Lengths, Lent, Told, told, telling}
+use Rattle.model.specs.Causes.{rules, refusal}
+use Rattle.model.specs.Laws.{Passed, TellsSettled}
+use Rattle.model.specs.Plain.{openingOf, dayOf, versionsOf, settledOf, viewIn, joined, plainNext, plainEnd, workedOut, after}
+use Rattle.model.specs.declared.Ruling.{Ruling}
+use Rattle.model.specs.declared.Ruling.the-variants.{Fine, Refuse}
+use Rattle.model.proofs.ChangeLaws.{submitted-once}
+use Rattle.model.proofs.Corollaries.{reached}
+use Rattle.model.proofs.Invariant.{opening-open}
+use Rattle.model.proofs.Lists.{all-snoc, all-then}
+use Rattle.model.proofs.Main.{agree}
+use Rattle.model.proofs.Rules.{passed}
+use Rattle.model.proofs.Selections.{own-uncounted}
+use Rattle.model.proofs.Settled.{day-grows, Plain, empty, opened, own-after, onward, same-settled}
+
+-- every version that a run has of its own is of this status
+abbrev Every : (run status : ℕ) → List VersionRecord → Type 0
+Every run s vs = (p : ℕ) (r : VersionRow) → own run p vs ≡ Selected r → statusNumber (r .status) ≡ s
+
+every-same : (run s : ℕ) (vs ws : List VersionRecord) → ((p : ℕ) → own run p ws ≡ own run p vs) → Every run s vs → Every run s ws
+every-same run s vs ws same e p r z = e p r (sym (same p) ∙ z)
+
+-- a version of another status
+abbrev other : (status : ℕ) → VersionRecord → Bool
+other s v = not (eqb (statusNumber (v .status)) s)
+
+-- no version is of this status
+abbrev Without : (status : ℕ) → List VersionRecord → Type 0
+Without s vs = all (other s) vs ≡ true
+
+-- what the accepted calls keep: run 2 is settled past the correction deadline and after run 1; in a settled run all are settled, and before that none is
+record Shown (h : List Told) : Type 0 where
+  past : settledOf h .second ≡ true → openingOf h .correction .0 < dayOf h
+  order : settledOf h .second ≡ true → settledOf h .first ≡ true
+  first : settledOf h .first ≡ true → Every 1 3 (versionsOf h)
+  second : settledOf h .second ≡ true → Every 2 5 (versionsOf h)
+  firstOpen : settledOf h .first ≡ false → Without 3 (versionsOf h)
+  secondOpen : settledOf h .second ≡ false → Without 5 (versionsOf h)
+
+-- a submission makes settlement data or check data
+submit-without : (s f n p x d : ℕ) → other s (newVersion f n p x d) ≡ true → (vs : List VersionRecord) → Without s vs → Without s (submitted (newVersion f n p x d) vs)
+submit-without s f n p x d e vs w = all-snoc (other s) vs (newVersion f n p x d) w e
+
+-- a notice settlement data or correction settlement data
+notice-without : (s c p x y d : ℕ) → ((v : VersionRecord) → other s (restatus (confirmedStatus c d) v) ≡ true) → (vs : List VersionRecord) → Without s vs → Without s (noticed c p x y d vs)
+notice-without s c p x y d e vs w = go (held p x vs)
+  where
+    go : (h : Held) → Without s (confirm c y d h vs)
+    go Absent = w
+    go (Has i v) =
+        by-test (Without s) (eqb y 1 && isCheck (v .status)) (set vs i (restatus (confirmedStatus c d) v)) vs
+        (λ _. all-set (other s) vs i (restatus (confirmedStatus c d) v) w (e v)) (λ _. w)
+
+-- a settle of a run what its settled ones are
+settle-without : (s r : ℕ) → eqb (statusNumber (settledStatus r)) s ≡ false → (vs : List VersionRecord) → Without s vs → Without s (settledBy r vs)
+unfolding settle
+settle-without s r e vs w = all-map (other s) (settle r vs) vs ∙ all-then (other s) (λ (v : VersionRecord). other s (settle r vs v)) one vs w
+  where
+    one : (v : VersionRecord) → other s v ≡ true → other s (settle r vs v) ≡ true
+    one v o =
+        by-test (λ (u : VersionRecord). other s u ≡ true) (counts r (v .status) && eqb (v .version .0) (versionOf (own r (v .point .0) vs))) (restatus (settledStatus r) v) v
+        (λ _. rw e) (λ _. o)
+
+module _ (h : List Told) (P : Plain h) (S : Shown h) (n : Lengths) where
+  nothing : h ≡ [] → settledOf h .first ≡ true → false ≡ true
+  unfolding workedOut
+  nothing e z = rw e at z
+
+  -- a settled run 1's selections stay
+  first-stays : (c : Call) → Passed (rules (viewIn h) n c) → settledOf h .first ≡ true → (p : ℕ) → own 1 p (after (telling n c) (workedOut h) .versions) ≡ own 1 p (versionsOf h)
+  first-stays c Q z = go P
+    where
+      go : Plain h → (p : ℕ) → own 1 p (after (telling n c) (workedOut h) .versions) ≡ own 1 p (versionsOf h)
+      go (empty e) = absurd (false≢true (nothing e z))
+      go (opened O) = own-after h O n c Q z
+
+  -- only a desk that is not open is opened, and no run of it is settled
+  unsettled : {A : Type 0} → isOpen (openingOf h) ≡ false → settledOf h .first ≡ true → A
+  unsettled shut z = go P
+    where
+      go : {A : Type 0} → Plain h → A
+      go (empty e) = absurd (false≢true (nothing e z))
+      go (opened O) = absurd (false≢true (sym shut ∙ opening-open (openingOf h) (O .opening)))
+
+  shown-next : (c : Call) → Passed (rules (viewIn h) n c) → Shown (telling n c ∷ h)
+  unfolding viewIn workedOut after fold
+  shown-next (opens q f c k gs) Q = record { past = λ z. unsettled (Q .0) (S .order z); order = S .order; first = S .first; second = S .second; firstOpen = S .firstOpen; secondOpen = S .secondOpen }
+  shown-next (activates p k a b d) Q =
+      record { past = λ z. omega (arith, S .past z, day-grows (viewIn h) n (activates p k a b d) Q); order = S .order; first = S .first; second = S .second; firstOpen = S .firstOpen; secondOpen = S .secondOpen }
+  shown-next (deactivates p d) Q =
+      record { past = λ z. omega (arith, S .past z, day-grows (viewIn h) n (deactivates p d) Q); order = S .order; first = S .first; second = S .second; firstOpen = S .firstOpen; secondOpen = S .secondOpen }
+  shown-next (submits p x d es) Q =
+      record {
+        past = λ z. omega (arith, S .past z, day-grows (viewIn h) n (submits p x d es) Q);
+        order = S .order;
+        first = λ z. every-same 1 3 (versionsOf h) _ (first-stays (submits p x d es) Q z) (S .first z);
+        second = λ z. every-same 2 5 (versionsOf h) _ (λ i. own-uncounted 2 i (openingOf h .first .0) (length (versionsOf h)) p x d (versionsOf h) (submitted-once (openingOf h .first .0) d)) (S .second z);
+        firstOpen = λ z. submit-without 3 (openingOf h .first .0) (length (versionsOf h)) p x d (by-test (λ (t : Status). not (eqb (statusNumber t) 3) ≡ true) (leb d (openingOf h .first .0)) Settlement Check (λ _. refl) (λ _. refl)) (versionsOf h) (S .firstOpen z);
+        secondOpen = λ z. submit-without 5 (openingOf h .first .0) (length (versionsOf h)) p x d (by-test (λ (t : Status). not (eqb (statusNumber t) 5) ≡ true) (leb d (openingOf h .first .0)) Settlement Check (λ _. refl) (λ _. refl)) (versionsOf h) (S .secondOpen z);
+      }
+  shown-next (notices p x y d) Q =
+      record {
+        past = λ z. omega (arith, S .past z, day-grows (viewIn h) n (notices p x y d) Q);
+        order = S .order;
+        first = λ z. every-same 1 3 (versionsOf h) _ (first-stays (notices p x y d) Q z) (S .first z);
+        second = λ z. absurd (omega (arith, S .past z, day-grows (viewIn h) n (notices p x y d) Q, ltb-false (openingOf h .correction .0) d (Q .1 .1 .1 .1 .0)));
+        firstOpen = λ z. notice-without 3 (openingOf h .clearing .0) p x y d (λ v. by-test (λ (t : Status). not (eqb (statusNumber t) 3) ≡ true) (leb d (openingOf h .clearing .0)) Settlement Correction (λ _. refl) (λ _. refl)) (versionsOf h) (S .firstOpen z);
+        secondOpen = λ z. notice-without 5 (openingOf h .clearing .0) p x y d (λ v. by-test (λ (t : Status). not (eqb (statusNumber t) 5) ≡ true) (leb d (openingOf h .clearing .0)) Settlement Correction (λ _. refl) (λ _. refl)) (versionsOf h) (S .secondOpen z);
+      }
+  shown-next (assigns a g d) Q =
+      record { past = λ z. omega (arith, S .past z, day-grows (viewIn h) n (assigns a g d) Q); order = S .order; first = S .first; second = S .second; firstOpen = S .firstOpen; secondOpen = S .secondOpen }
+  shown-next (shows r g) Q = record { past = S .past; order = S .order; first = S .first; second = S .second; firstOpen = S .firstOpen; secondOpen = S .secondOpen }
+  shown-next (asks p x) Q = record { past = S .past; order = S .order; first = S .first; second = S .second; firstOpen = S .firstOpen; secondOpen = S .secondOpen }
+  shown-next (settles r d) Q = record { past = late; order = both; first = ones; second = twos; firstOpen = not-ones; secondOpen = not-twos }
+    where
+      late : (eqb r 2 || settledOf h .second) ≡ true → openingOf h .correction .0 < d
+      late z = go (eqb r 2) refl z
+        where
+          go : (t : Bool) → eqb r 2 ≡ t → (t || settledOf h .second) ≡ true → openingOf h .correction .0 < d
+          go true e _ = leb-false d (openingOf h .correction .0) (rw (eqb-true r 2 e) at (Q .1 .1 .1 .0))
+          go false e y = omega (arith, S .past y, day-grows (viewIn h) n (settles r d) Q)
+
+      both : (eqb r 2 || settledOf h .second) ≡ true → (eqb r 1 || settledOf h .first) ≡ true
+      both z = go (eqb r 2) refl z
+        where
+          go : (t : Bool) → eqb r 2 ≡ t → (t || settledOf h .second) ≡ true → (eqb r 1 || settledOf h .first) ≡ true
+          go true e _ = rw (not-false (settledOf h .first) (rw e at (Q .1 .1 .1 .1 .1 .0)), or-true (eqb r 1))
+          go false e y = rw (S .order y, or-true (eqb r 1))
+
+      ones : (eqb r 1 || settledOf h .first) ≡ true → Every 1 3 (settledBy r (versionsOf h))
+      ones z = go (ℕ-discrete 1 r)
+        where
+          go : Dec (1 ≡ r) → Every 1 3 (settledBy r (versionsOf h))
+          go (yes e) = rw (← e) (settles-first (versionsOf h) .told)
+          go (no ne) = every-same 1 3 (versionsOf h) _ (λ p. settle-apart r (versionsOf h) 1 p ne) (S .first (rw (ne-eqb r 1 (λ e. ne (sym e))) at z))
+
+      twos : (eqb r 2 || settledOf h .second) ≡ true → Every 2 5 (settledBy r (versionsOf h))
+      twos z = go (ℕ-discrete 2 r)
+        where
+          go : Dec (2 ≡ r) → Every 2 5 (settledBy r (versionsOf h))
+          go (yes e) = rw (← e) (settles-second (versionsOf h) .told)
+          go (no ne) = every-same 2 5 (versionsOf h) _ (λ p. settle-apart r (versionsOf h) 2 p ne) (S .second (rw (ne-eqb r 2 (λ e. ne (sym e))) at z))
+
+      not-ones : (eqb r 1 || settledOf h .first) ≡ false → Without 3 (settledBy r (versionsOf h))
+      not-ones z = settle-without 3 r (rw (or-left (eqb r 1) _ z)) (versionsOf h) (S .firstOpen (or-right (eqb r 1) _ z))
+
+      not-twos : (eqb r 2 || settledOf h .second) ≡ false → Without 5 (settledBy r (versionsOf h))
+      not-twos z = settle-without 5 r (rw (run-one (or-left (eqb r 2) _ z))) (versionsOf h) (S .secondOpen (or-right (eqb r 2) _ z))
+        where
+          run-one : eqb r 2 ≡ false → r ≡ 1
+          run-one e =
+              let ok = and-left (runOk r) _ (not-false (runOk r && dayOk d) (Q .1 .0)) in
+              let low = within-low 1 runs r ok in
+              let high = within-high 1 runs r ok in
+              let ne : r ≡ 2 → ⊥ = λ k. false≢true (sym e ∙ eq-eqb r 2 k) in
+              omega arith
+
+-- every accepted call keeps it, and a refused one changes nothing
+shown-on : (h : List Told) (t : Told) → Plain h → Shown h → Shown (plainNext h t)
+unfolding plainNext joined refusal
+shown-on h t P S = go (refusal (viewIn h) t) refl
+  where
+    go : (v : Ruling) → refusal (viewIn h) t ≡ v → Shown (joined v h t)
+    go Fine e = shown-next h P S (t .lengths) (t .call) (passed (rules (viewIn h) (t .lengths) (t .call)) e)
+    go (Refuse x) e = S
+
+shown-end : (h m : List Told) → Plain h → Shown h → Shown (plainEnd h m)
+unfolding plainEnd
+shown-end h [] P S = S
+shown-end h (t ∷ m) P S = shown-end (plainNext h t) m (onward h t P .plain) (shown-on h t P S)
+
+shown : (l : List Told) → Shown (plainEnd [] l)
+unfolding workedOut all
+shown l =
+    shown-end [] l (empty refl)
+    (record { past = λ z. absurd (false≢true z); order = λ z. absurd (false≢true z); first = λ z. absurd (false≢true z); second = λ z. absurd (false≢true z); firstOpen = λ z. refl; secondOpen = λ z. refl })
+
+-- a version told of a status that none has
+never : (s : ℕ) (vs : List VersionRecord) (p : ℕ) (r : VersionRow) → Without s vs → other s emptyVersion ≡ true → Tells p vs r → statusNumber (r .status) ≡ s → ⊥
+never s vs p r w e t k =
+    let here : other s (recordAt vs (r .at)) ≡ true = all-at (other s) vs (r .at) emptyVersion e w in
+    false≢true (sym (rw (t .status, k, eq-eqb s s refl)) ∙ here)
+
+module _ (l : List Told) where
+  abbrev vs : List VersionRecord
+  vs = versionsOf (plainEnd [] l)
+
+  ending : {A B : Type 0} → A ⊎ B → (B → ⊥) → A
+  ending (inl a) n = a
+  ending (inr b) n = absurd (n b)
+
+  -- of the plain desk's list
+  pub plain-tells : TellsSettled (settledOf (plainEnd [] l)) vs
+  plain-tells =
+      record {
+        first = shown l .first;
+        firstOpen = λ z p r e. ending (first-status p vs r e) (never 3 vs p r (shown l .firstOpen z) refl (own-tells 1 p vs r e));
+        second = λ z p r e. go z p r (own 2 p vs) refl e;
+        secondOpen = λ z p r e. ending (second-status p vs r e) (never 5 vs p r (shown l .secondOpen z) refl (own-tells 2 p vs r e));
+      }
+    where
+      go : settledOf (plainEnd [] l) .second ≡ true → (p : ℕ) (r : VersionRow) (s : Selection) → own 2 p vs ≡ s → orElse s (own 1 p vs) ≡ Selected r → (statusNumber (r .status) ≡ 5) ⊎ (statusNumber (r .status) ≡ 3)
+      go z p r None y k = inr (shown l .first (shown l .order z) p r k)
+      go z p r (Selected q) y k = inl (shown l .second z p r (y ∙ k))
+
+-- and of the running desk
+pub running-tells : (s : Stores) (l : List Lent) → Chained (fresh s) l → TellsSettled (end (fresh s) l .desk .frame .settled) (versionsIn (end (fresh s) l .desk))
+running-tells s l c =
+    let flags = same-settled (end (fresh s) l) (plainEnd [] (map told l)) (reached s l c) in
+    subst (λ (f : Runs). TellsSettled f (versionsIn (end (fresh s) l .desk))) (sym flags)
+    (subst (TellsSettled (settledOf (plainEnd [] (map told l)))) (sym (agree s l c .versions)) (plain-tells (map told l)))
