@@ -71,18 +71,22 @@ record Shown (h : List Told) : Type 0 where
   secondOpen : settledOf h .second ≡ false → Without 5 (versionsOf h)
 
 -- a submission makes settlement data or check data
-submit-without : (s f n p x d : ℕ) → other s (newVersion f n p x d) ≡ true → (vs : List VersionRecord) → Without s vs → Without s (submitted (newVersion f n p x d) vs)
-submit-without s f n p x d e vs w = all-snoc (other s) vs (newVersion f n p x d) w e
+submit-without : (s : ℕ) → eqb 2 s ≡ false → eqb 1 s ≡ false → (f n p x d : ℕ) (vs : List VersionRecord) → Without s vs → Without s (submitted (newVersion f n p x d) vs)
+submit-without s e k f n p x d vs w =
+    all-snoc (other s) vs (newVersion f n p x d) w (by-test (λ (t : Status). not (eqb (statusNumber t) s) ≡ true) (leb d f) Settlement Check (λ _. rw e) (λ _. rw k))
 
 -- a notice settlement data or correction settlement data
-notice-without : (s c p x y d : ℕ) → ((v : VersionRecord) → other s (restatus (confirmedStatus c d) v) ≡ true) → (vs : List VersionRecord) → Without s vs → Without s (noticed c p x y d vs)
-notice-without s c p x y d e vs w = go (held p x vs)
+notice-without : (s : ℕ) → eqb 2 s ≡ false → eqb 4 s ≡ false → (c p x y d : ℕ) (vs : List VersionRecord) → Without s vs → Without s (noticed c p x y d vs)
+notice-without s e k c p x y d vs w = go (held p x vs)
   where
+    new : not (eqb (statusNumber (confirmedStatus c d)) s) ≡ true
+    new = by-test (λ (t : Status). not (eqb (statusNumber t) s) ≡ true) (leb d c) Settlement Correction (λ _. rw e) (λ _. rw k)
+
     go : (h : Held) → Without s (confirm c y d h vs)
     go Absent = w
     go (Has i v) =
         by-test (Without s) (eqb y 1 && isCheck (v .status)) (set vs i (restatus (confirmedStatus c d) v)) vs
-        (λ _. all-set (other s) vs i (restatus (confirmedStatus c d) v) w (e v)) (λ _. w)
+        (λ _. all-set (other s) vs i (restatus (confirmedStatus c d) v) w new) (λ _. w)
 
 -- a settle of a run what its settled ones are
 settle-without : (s r : ℕ) → eqb (statusNumber (settledStatus r)) s ≡ false → (vs : List VersionRecord) → Without s vs → Without s (settledBy r vs)
@@ -128,8 +132,8 @@ module _ (h : List Told) (P : Plain h) (S : Shown h) (n : Lengths) where
         order = S .order;
         first = λ z. every-same 1 3 (versionsOf h) _ (first-stays (submits p x d es) Q z) (S .first z);
         second = λ z. every-same 2 5 (versionsOf h) _ (λ i. own-uncounted 2 i (openingOf h .first .0) (length (versionsOf h)) p x d (versionsOf h) (submitted-once (openingOf h .first .0) d)) (S .second z);
-        firstOpen = λ z. submit-without 3 (openingOf h .first .0) (length (versionsOf h)) p x d (by-test (λ (t : Status). not (eqb (statusNumber t) 3) ≡ true) (leb d (openingOf h .first .0)) Settlement Check (λ _. refl) (λ _. refl)) (versionsOf h) (S .firstOpen z);
-        secondOpen = λ z. submit-without 5 (openingOf h .first .0) (length (versionsOf h)) p x d (by-test (λ (t : Status). not (eqb (statusNumber t) 5) ≡ true) (leb d (openingOf h .first .0)) Settlement Check (λ _. refl) (λ _. refl)) (versionsOf h) (S .secondOpen z);
+        firstOpen = λ z. submit-without 3 refl refl (openingOf h .first .0) (length (versionsOf h)) p x d (versionsOf h) (S .firstOpen z);
+        secondOpen = λ z. submit-without 5 refl refl (openingOf h .first .0) (length (versionsOf h)) p x d (versionsOf h) (S .secondOpen z);
       }
   shown-next (notices p x y d) Q =
       record {
@@ -137,8 +141,8 @@ module _ (h : List Told) (P : Plain h) (S : Shown h) (n : Lengths) where
         order = S .order;
         first = λ z. every-same 1 3 (versionsOf h) _ (first-stays (notices p x y d) Q z) (S .first z);
         second = λ z. absurd (omega (arith, S .past z, day-grows (viewIn h) n (notices p x y d) Q, ltb-false (openingOf h .correction .0) d (Q .1 .1 .1 .1 .0)));
-        firstOpen = λ z. notice-without 3 (openingOf h .clearing .0) p x y d (λ v. by-test (λ (t : Status). not (eqb (statusNumber t) 3) ≡ true) (leb d (openingOf h .clearing .0)) Settlement Correction (λ _. refl) (λ _. refl)) (versionsOf h) (S .firstOpen z);
-        secondOpen = λ z. notice-without 5 (openingOf h .clearing .0) p x y d (λ v. by-test (λ (t : Status). not (eqb (statusNumber t) 5) ≡ true) (leb d (openingOf h .clearing .0)) Settlement Correction (λ _. refl) (λ _. refl)) (versionsOf h) (S .secondOpen z);
+        firstOpen = λ z. notice-without 3 refl refl (openingOf h .clearing .0) p x y d (versionsOf h) (S .firstOpen z);
+        secondOpen = λ z. notice-without 5 refl refl (openingOf h .clearing .0) p x y d (versionsOf h) (S .secondOpen z);
       }
   shown-next (assigns a g d) Q =
       record { past = λ z. omega (arith, S .past z, day-grows (viewIn h) n (assigns a g d) Q); order = S .order; first = S .first; second = S .second; firstOpen = S .firstOpen; secondOpen = S .secondOpen }
