@@ -79,7 +79,7 @@ extern "C" {
 #define EMORIZUGU_SERIES_LENGTH EMORIZUGU_QUARTERS
 #define EMORIZUGU_ANSWERS_LENGTH(file_length) ((file_length) / 3 + 1)
 
-/* The stack that a call needs, in bytes, with room to spare: a replay was measured to touch 96,991. */
+/* The stack that a call needs, in bytes, with room to spare: a replay was measured to touch 92,895. */
 #define EMORIZUGU_STACK 131072
 
 /* The places of a replay's report. */

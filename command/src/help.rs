@@ -21,9 +21,9 @@ const HELPS: [Help; 11] = [
             answered and refused, the desk's day, which runs are settled, the selections that changed, and each group's month:\n\
             the sum of run 1, of run 2, and run 2 less run 1, in watt-hours.\n\
             Last comes what is settled: for each run how many of the versions that it selects, and for each active point its series, in\n\
-            which runs the selected version is settled (both, run 1, run 2, no; - where none is selected), what each run selects with its\n\
-            status (as run 1: run 2 has none of its own), and its other versions with their statuses, the highest first; where a line has\n\
-            no room for them, how many there are of each status.\n\
+            which runs what is selected is settled (both, run 1, run 2, no; - where nothing is selected; what run 2 has from run 1 is\n\
+            settled there with run 2), what each run selects with its status (as run 1: run 2 has none of its own), and its other\n\
+            versions with their statuses, the highest first; where a line has no room for them, how many there are of each status.\n\
             Where the month is known, each day is shown with its date: by a line `month YYYY-MM` of the text (desk pack --help), or by\n\
             --month, for a message file and for a text without that line.",
         example: "desk run examples/month.calls",
