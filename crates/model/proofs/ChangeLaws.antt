@@ -7,7 +7,7 @@ use mathlib.Core.List.{List}
 use native.Mathlib.Omega.{arith}
 use borrow.Author.Tests.{eqb-true, not-false}
 use lib.Dec.{leb, eqb}
-use lib.ListN.{length, length-set, List·getD-map}
+use lib.ListN.{length, length-set}
 use lib.Seq.{getD-set-same, getD-set-other}
 use Rattle.quantity.specs.Limits.{runs, groups, runOk, groupOk}
 use Rattle.quantity.specs.Lists.{fold}

@@ -1,7 +1,7 @@
 -- Document 01's example, computed. Assumes nothing.
 use Prim.Native.Nat.{ℕ, _-_}
 use mathlib.Core.Path.{_≡_, refl, ap, ap₂, _∙_}
-use mathlib.Core.List.{List, [], _∷_, _++_, map}
+use mathlib.Core.List.{List, [], _++_, map}
 use lib.ListN.{length, take, drop}
 use Rattle.quantity.specs.Lists.{all, any, fold}
 use Rattle.quantity.specs.Sum.{sumTo}

@@ -1,5 +1,4 @@
 // For tests and benchmarks only: the row adder, and scripts of calls with damage to the state.
-mod damage;
 mod row;
 mod script;
 mod via;

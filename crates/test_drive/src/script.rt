@@ -1,7 +1,6 @@
 // A script of the nine calls on a fresh desk, each with its own lengths of the stores; and damage to the desk's fields.
 use crate::Ran;
 use crate::Room;
-use crate::damage::damaged;
 use crate::via::via_apply;
 use amend::copies::copy_row;
 use calls::show::show_number;
@@ -9,6 +8,7 @@ use calls::show::show_row;
 use calls::status::status;
 use checks::Outcome;
 use checks::numbers::cause_number;
+use damage::damaged;
 use message::Named;
 use message::call::ASSIGNMENT;
 use message::call::MOST_FIELDS;

@@ -1,4 +1,4 @@
-// A desk with one field overwritten, as no call would do it: so that cause 1 can be tried field by field.
+// For tests only: a desk with one field overwritten, as no call would do it, so that cause 1 can be tried field by field.
 use book::figure::BYTE;
 use quantity::Day;
 use quantity::Version;
