@@ -23,10 +23,11 @@ answerRoom = 9
 abbrev pub lineRoom : ℕ
 lineRoom = 42
 
--- of a group's line, and of a sum's
+-- of a group's line
 abbrev pub groupRoom : ℕ
 groupRoom = 87
 
+-- of a sum's line
 abbrev pub totalRoom : ℕ
 totalRoom = 66
 

@@ -7,12 +7,15 @@ use lib.Dec.{ltb}
 use lib.IntN.{ℤ, pos, negsuc}
 use lib.ListN.{take, drop}
 
+-- a line's end
 abbrev pub newline : ℕ
 newline = 10
 
+-- between the parts of a line
 abbrev pub blank : ℕ
 blank = 32
 
+-- a negative number's sign
 abbrev pub minus : ℕ
 minus = 45
 
