@@ -25,7 +25,7 @@ extern "C" {
 #endif
 
 /* The version of these entries. It rises with every change that a host notices; emorizugu_version() is the library's. */
-#define EMORIZUGU_VERSION 4
+#define EMORIZUGU_VERSION 5
 
 /* Answers: accepted, and the causes of a refusal in the order in which they are checked. docs/CAUSES.md has them in words. */
 #define EMORIZUGU_ACCEPTED         0
@@ -45,6 +45,7 @@ extern "C" {
 #define EMORIZUGU_VERSION_PRESENT  14  /* submit: the point has this version */
 #define EMORIZUGU_VERSION_BELOW    15  /* submit: the version lies below the point's highest */
 #define EMORIZUGU_NO_VERSION       24  /* notice: the point has no such version */
+#define EMORIZUGU_NOTICE_BELOW     37  /* notice: the version lies below the point's highest */
 #define EMORIZUGU_NOT_CHECK_DATA   25  /* notice: the version is no check data */
 #define EMORIZUGU_NO_ROW           16  /* submit: no row of values left, or 512 versions held */
 #define EMORIZUGU_NO_LOG_ROW       17  /* no log row left */

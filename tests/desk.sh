@@ -17,14 +17,16 @@ OPEN='open quarters=2 first=10 clearing=30 correction=150 T=4 1=1 2=2 others=3'
 
 # ---- refusals in words
 
-# refusal WORDS MEND LINE..: behind an opening and the lines, the last one is refused so. Where `known` names a month, it is run with that.
+# refusal WORDS MEND LINE..: behind an opening and the lines, the last one is refused so. Where `known` names a month, it is run with that; where
+# `alone` is set, no other line is refused.
 refusal() {
     local why=$1 mend=$2 lines
     shift 2
     { echo "$OPEN" && printf '%s\n' "$@"; } >"$work/one.calls"
     lines=$(($# + 1))
     ./desk run "$work/one.calls" ${known:+--month "$known"} >"$work/out" 2>&1
-    if [ $? -eq 1 ] && grep -qxF "line $lines, call $lines: $why" "$work/out" && grep -qxF "    to mend it: $mend" "$work/out"; then
+    if [ $? -eq 1 ] && grep -qxF "line $lines, call $lines: $why" "$work/out" && grep -qxF "    to mend it: $mend" "$work/out" &&
+        grep -q "^$lines calls, ${alone:+1 }.*refused; " "$work/out"; then
         pass "refused: $why"
     else
         fail "refused: $why" "$work/out"
@@ -67,8 +69,10 @@ refusals() {
         "$active" "$sent" "$sent"
     refusal 'submit point 1 version 1: refused, 15: version 1 lies below version 2, which line 3 submitted' 'take version 3 or higher' "$active" \
         "$sent" 'submit point=1 version=1 day=2 energies=1,2'
-    refusal 'notice point 1 version 3: refused, 24: point 1 has no version 3: its highest is 2, of line 3' 'name a version that was submitted' \
-        "$active" "$sent" 'notice point=1 version=3 verdict=positive day=12'
+    refusal 'notice point 1 version 3: refused, 24: point 1 has no version 3: its highest is 2, of line 3' \
+        'submit version 3 first, or leave the call out' "$active" "$sent" 'notice point=1 version=3 verdict=positive day=12'
+    refusal 'notice point 1 version 2: refused, 24: point 1 has no version 2: it has no version at all' \
+        'submit version 2 first, or leave the call out' "$active" 'notice point=1 version=2 verdict=negative day=12'
     refusal 'notice point 1 version 2: refused, 24: point 1 has no version 2: its submission in line 3 was refused, 13' 'correct line 3' "$active" \
         'submit point=1 version=2 day=1 energies=1,2' 'notice point=1 version=2 verdict=positive day=12'
     refusal 'notice point 1 version 2: refused, 25: version 2 is no check data: line 3 submitted it on day 2, and the first delivery lasts to day 10' \
@@ -97,8 +101,135 @@ dated_refusals() {
         'nothing: it counts without a notice' "$active" "$sent" 'notice point=1 version=2 verdict=positive day=2026-08-18'
     refusal 'settle run 1: refused, 27: day 30 (2026-09-11) does not lie behind the clearing deadline, day 30 (2026-09-11, line 1)' \
         'settle run 1 on day 31 (2026-09-14) or later' 'settle run=1 day=2026-09-11'
+    refusal "notice point 1 version 2: refused, 37: version 2 lies below version 3, the point's highest, which line 4 submitted on day 12 (2026-08-18)" \
+        'give the notice for version 3, the highest, or leave the call out' "$active" "$sent" 'submit point=1 version=3 day=2026-08-18 energies=1,2' \
+        'notice point=1 version=2 verdict=positive day=2026-08-19'
     has 'refused: an opening, with dates' 1 'refused, 4: deadlines 3 \(2026-08-05\), 2 \(2026-08-04\), 9 \(2026-08-13\) do not rise from 1 to 399$' \
         ./desk run --month 2026-07 <(echo 'open quarters=1 first=3 clearing=2026-08-04 correction=9 others=1')
+}
+
+# below VERSION LINE DAY: the words on a notice below version 5, which a line submitted on a day.
+below() {
+    echo "notice point 1 version $1: refused, 37: version $1 lies below version 5, the point's highest, which line $2 submitted on day $3"
+}
+
+# A notice is for the point's highest version: on a lower one it is refused, positive or negative, whatever the status of either.
+notices() {
+    local alone=1 active='activate point=1 kind=exchange area=1 partner=outside day=0' early='submit point=1 version=2 day=10 energies=1,2'
+    local older='submit point=1 version=3 day=11 energies=3,4' newer='submit point=1 version=5 day=12 energies=5,6' notice='notice point=1 version'
+    local give='give the notice for version 5, the highest, or leave the call out' counts='leave the call out: version 5, the highest, counts already'
+    # The highest is check data; the older one is check data too, without and with a negative notice.
+    refusal "$(below 3 4 12)" "$give" "$active" "$older" "$newer" "$notice=3 verdict=positive day=12"
+    refusal "$(below 3 5 12)" "$give" "$active" "$older" "$notice=3 verdict=negative day=12" "$newer" "$notice=3 verdict=negative day=12"
+    # The older one is settlement data (2) of the first delivery and by its notice, settled (3), correction settlement data (4).
+    refusal "$(below 2 5 12)" "$give" "$active" "$early" "$older" "$newer" "$notice=2 verdict=positive day=13"
+    refusal "$(below 2 4 12)" "$give" "$active" "$early" "$newer" "$notice=2 verdict=negative day=13"
+    refusal "$(below 3 6 12)" "$give" "$active" "$early" "$older" "$notice=3 verdict=positive day=12" "$newer" "$notice=5 verdict=negative day=13" \
+        "$notice=3 verdict=positive day=13"
+    refusal "$(below 2 5 32)" "$give" "$active" "$early" 'settle run=1 day=31' "${newer/day=12/day=32}" "$notice=2 verdict=positive day=150"
+    refusal "$(below 3 5 32)" "$give" "$active" "$older" "$notice=3 verdict=positive day=31" "${newer/day=12/day=32}" "$notice=3 verdict=negative day=33"
+    # The highest counts: of the first delivery, by its notice in each run, settled.
+    refusal "$(below 2 4 10)" "$counts" "$active" "$early" "${newer/day=12/day=10}" "$notice=2 verdict=positive day=12"
+    refusal "$(below 3 4 12)" "$counts" "$active" "$older" "$newer" "$notice=5 verdict=positive day=30" "$notice=3 verdict=positive day=30"
+    refusal "$(below 3 4 12)" "$counts" "$active" "$older" "$newer" "$notice=5 verdict=positive day=31" "$notice=3 verdict=positive day=31"
+    refusal "$(below 3 5 12)" "$counts" "$active" "$early" "$older" "$newer" "$notice=5 verdict=positive day=30" 'settle run=1 day=31' \
+        "$notice=3 verdict=negative day=32"
+    notices_in_order
+    below_in_words
+}
+
+# 37 comes behind 5, 11, 12 and 24, where there is no such version, and in front of 25, which only the highest version gets.
+notices_in_order() {
+    refusal "notice point 1 version 3: refused, 5: day 11 lies before the desk's day 12, which line 4 set" \
+        'give it day 12 or later; if day 12 is a mistake, correct line 4' "$active" "$older" "$newer" "$notice=3 verdict=positive day=11"
+    refusal 'notice point 1 version 3: refused, 11: day 151 lies behind the correction deadline, day 150 (line 1)' \
+        'the last day for it is 150; correct the day, or leave the call out' "$active" "$older" "$newer" "$notice=3 verdict=positive day=151"
+    refusal 'notice point 2 version 3: refused, 12: point 2 is not active: no call in front activates it' \
+        'put `activate point=2 ..` in front, or correct the point' "$active" "$older" "$newer" 'notice point=2 version=3 verdict=positive day=12'
+    refusal 'notice point 1 version 4: refused, 24: point 1 has no version 4: its highest is 5, of line 4' "$give" "$active" "$older" "$newer" \
+        "$notice=4 verdict=positive day=12"
+    refusal 'notice point 1 version 1: refused, 24: point 1 has no version 1: its highest is 5, of line 3' "$counts" "$active" "${newer/day=12/day=2}" \
+        "$notice=1 verdict=negative day=12"
+    refusal 'notice point 1 version 6: refused, 24: point 1 has no version 6: its highest is 5, of line 4' \
+        'give the notice for version 5, or submit version 6 first' "$active" "$older" "$newer" "$notice=6 verdict=positive day=12"
+    refusal 'notice point 1 version 5: refused, 25: version 5 is no check data: line 5 gave it its positive notice' 'nothing: it counts already' \
+        "$active" "$older" "$newer" "$notice=5 verdict=positive day=12" "$notice=5 verdict=negative day=12"
+}
+
+# A month with notices below the highest version: `desk run`, the lists, the page; as a message file, with dates. What is refused sets no day; a submission that is
+# refused, and another point's versions, are no higher version.
+below_in_words() {
+    local file
+    file=$(text below.calls <<END
+$OPEN
+activate point=1 kind=exchange area=1 partner=outside day=0
+activate point=2 kind=group-sum area=1 partner=5 day=0
+submit point=1 version=1 day=2 energies=10,20
+submit point=1 version=2 day=11 energies=11,21
+submit point=1 version=30 day=12 energies=12,22
+submit point=2 version=1 day=12 energies=1,2
+notice point=1 version=2 verdict=positive day=20
+submit point=2 version=2 day=20 energies=1
+notice point=1 version=1 verdict=negative day=30
+notice point=1 version=30 verdict=positive day=13
+notice point=2 version=1 verdict=positive day=14
+notice point=1 version=2 verdict=positive day=14
+END
+    )
+    expect 'notices: a month with some below the highest version' 1 ./desk run "$file" <<END
+line 8, call 8: notice point 1 version 2: refused, 37: version 2 lies below version 30, the point's highest, which line 6 submitted on day 12
+    to mend it: give the notice for version 30, the highest, or leave the call out
+line 9, call 9: submit point 2 version 2: refused, 3: the series has 1 energy, and the month 2 quarter hours (line 1)
+    to mend it: correct what is named
+line 10, call 10: notice point 1 version 1: refused, 37: version 1 lies below version 30, the point's highest, which line 6 submitted on day 12
+    to mend it: give the notice for version 30, the highest, or leave the call out
+line 13, call 13: notice point 1 version 2: refused, 37: version 2 lies below version 30, the point's highest, which line 6 submitted on day 12
+    to mend it: leave the call out: version 30, the highest, counts already
+3 of these come from line 6: submit point 1 version 30; look there first
+
+13 calls, 4 refused; day 14; no run settled; 2 quarter hours
+the first refused: line 8, call 8
+
+1 selection changed
+    day 13: point 1, run 1: version 30 in the place of 1
+
+group               run 1, Wh               run 2, Wh          difference, Wh
+    1                      31                      31                       0
+    5                       3                       3                       0
+
+run 1 is not settled: 0 of 2 selected versions settled
+run 2 is not settled: 0 of 2 selected versions settled; 0 its own, 2 as run 1
+
+point  series                        settled  run 1               run 2     other versions
+    1  exchange area 1 with outside  no       30 settlement data  as run 1  2 check data, 1 settlement data
+    2  group-sum area 1 group 5      no       1 settlement data   as run 1
+END
+    below_in_lists "$file"
+}
+
+below_in_lists() {
+    local file=$1
+    expect 'notices: the statuses as csv' 1 ./desk points "$file" --group 5 --csv <<END
+point,kind,area,partner,since,since_date,version,status,run_1,run_2,settled
+2,group-sum,1,5,0,,1,settlement data,yes,yes,no
+! desk: $file: 4 of 13 calls were refused; \`desk run\` says which and why
+END
+    expect 'notices: the log as json, a row a positive notice' 1 ./desk log "$file" --json <<END
+[
+{"row":1,"day":2,"date":null,"point":1,"run":1,"version":1},
+{"row":2,"day":13,"date":null,"point":1,"run":1,"version":30},
+{"row":3,"day":14,"date":null,"point":2,"run":1,"version":1}
+]
+! desk: $file: 4 of 13 calls were refused; \`desk run\` says which and why
+END
+    holds 'notices: the same rows in each form' python3 tests/forms.py ./desk "$file"
+    page_of below "$file" 2>/dev/null
+    page_script below "$file" 2>/dev/null
+    holds 'notices: on the page' grep -qxF "<li>line 13, call 13: notice point 1 version 2: refused, 37: version 2 lies below version 30, the point's highest, which line 6 submitted on day 12<br><span class=\"faint\">to mend it: leave the call out: version 30, the highest, counts already</span></li>" "$work/below.html"
+    ./desk pack "$file" -o "$work/below.msg"
+    has 'notices: a message file, with dates' 1 \
+        "^call 8, offset [0-9]+: notice point 1 version 2: refused, 37: version 2 lies below version 30, the point's highest, which call 6 submitted on day 12 \\(2026-08-18\\)\$" \
+        ./desk run "$work/below.msg" --month 2026-07
 }
 
 # One typed date, October for August, refuses what follows; the desk says where all of it comes from.
@@ -881,7 +1012,7 @@ help() {
         holds "help of $command, and its example" example "$command"
     done
     has 'help' 0 '^Exit status: 0 all calls accepted' ./desk --help
-    has 'version' 0 '^desk [0-9.]+, library 4$' ./desk --version
+    has 'version' 0 '^desk [0-9.]+, library 5$' ./desk --version
     has 'no command' 2 'desk run' ./desk
     has 'a wrong command' 2 "there is no command 'runn'; commands are run, figures" ./desk runn
     has 'help of a wrong command' 2 "there is no command 'runn'" ./desk help runn
@@ -951,9 +1082,36 @@ causes() {
     for one in program header library; do
         holds "causes: docs/CAUSES.md and the $one" diff "$work/page" "$work/$one"
     done
+    cause_order
     has 'one cause' 0 'to mend: put the calls in the order of their days' ./desk causes 5
     has 'the cause of a date' 0 '^    calls:   calendar$' ./desk causes 36
     has 'no such cause' 2 "there is no cause '7'" ./desk causes 7
+}
+
+# The order in which causes are checked: by docs/CAUSES.md, `desk causes`, the header, and, as far as calls have it, the library's table. 37 as each form shows it.
+cause_order() {
+    sed -n 's/^| \([0-9][0-9]*\) |.*/\1/p' docs/CAUSES.md >"$work/page"
+    holds 'causes: the order of desk causes' diff "$work/page" <(./desk causes --csv | sed 1d | cut -d, -f 1)
+    holds 'causes: the order of the header' diff "$work/page" \
+        <(awk '/Answers: accepted/ { on = 1 } /Ranges/ { on = 0 } on && $1 == "#define" && $3 > 0 { print $3 }' include/emorizugu.h)
+    sed -n 's/^order = //p' crates/model/specs/Table.antt | grep -oE '[0-9]+' >"$work/library"
+    holds 'causes: the order of the table' sh -c "[ -s '$work/library' ] && sed '/^31\$/,\$d' '$work/page' | diff - '$work/library'"
+    expect 'the cause of a notice below the highest version' 0 ./desk causes 37 <<END
+37  the version lies below the point's highest; a notice, positive or negative, is for the highest only
+    calls:   notice
+    to mend: give the notice for the point's highest version; to have an older series count, submit it again with a higher number
+END
+    expect 'it as csv, with those beside it' 0 ./desk causes 25 37 24 --csv <<END
+number,name,meaning,calls,mend
+24,NO_VERSION,the point has no such version,"notice, status","name a version that was accepted, in a notice the point's highest; where its submission was refused, see why"
+37,NOTICE_BELOW,"the version lies below the point's highest; a notice, positive or negative, is for the highest only",notice,"give the notice for the point's highest version; to have an older series count, submit it again with a higher number"
+25,NOT_CHECK_DATA,"the version is not check data: it came by the first delivery, or it has its positive notice",notice,nothing: it counts already
+END
+    expect 'it as json' 0 ./desk causes 37 --json <<END
+[
+{"number":37,"name":"NOTICE_BELOW","meaning":"the version lies below the point's highest; a notice, positive or negative, is for the highest only","calls":"notice","mend":"give the notice for the point's highest version; to have an older series count, submit it again with a higher number"}
+]
+END
 }
 
 # ---- a month of 2,976 quarter hours, 256 points and 512 versions
@@ -1039,6 +1197,7 @@ mkdir -p "$work" || exit 2
 if ./desk --version >"$work/log" 2>&1; then
     pass 'the program is built'
     refusals
+    notices
     dated_refusals
     holds 'one typed day' typed_day
     too_many

@@ -219,6 +219,44 @@ T 2 1 0
 END
 }
 
+# A notice is for the point's highest version: 37 on a lower one, 24 where there is none of that number, 25 where it is no check data.
+desk_on_notices() {
+    pack notices.msg <<END
+$OPEN
+activate point=1 kind=1 area=1 partner=0 day=0
+submit point=1 version=1 day=2 energies=1
+submit point=1 version=2 day=11 energies=2
+submit point=1 version=4 day=12 energies=4
+notice point=1 version=1 verdict=0 day=40
+notice point=1 version=2 verdict=1 day=40
+notice point=1 version=3 verdict=1 day=40
+notice point=1 version=4 verdict=0 day=12
+notice point=1 version=4 verdict=1 day=30
+notice point=1 version=4 verdict=1 day=30
+notice point=1 version=2 verdict=1 day=30
+END
+    expect 'notices on the highest version and on others' 0 ./run "$work/notices.msg" <<END
+1 0
+2 0
+3 0
+4 0
+5 0
+6 37
+7 37
+8 24
+9 0
+10 0
+11 25
+12 37
+G 1 1 1 4
+T 1 1 4
+G 2 1 1 4
+T 2 1 4
+S 1 1 4 2
+S 2 1 4 2
+END
+}
+
 # What the runs select, with its status, before and after each settle. Point 3 is activated first; point 4 has check data.
 desk_on_statuses() {
     cat >"$work/corrected.calls" <<END
@@ -449,6 +487,7 @@ if ./run examples/empty.msg >"$work/log" 2>&1; then
     desk_on_damaged_files
     desk_on_openings
     desk_on_figures
+    desk_on_notices
     desk_on_statuses
     desk_on_long_files
     desk_on_small_stack

@@ -47,7 +47,12 @@ pub enum Cause {
     AlreadySettled = 28,
     /// Run 2 before run 1.
     FirstRunOpen = 29,
+    /// A notice on a version below the point's highest.
+    OlderVersion = 37,
 }
+
+/// The largest number of a cause.
+pub const LAST_CAUSE: usize = Cause::OlderVersion as usize;
 
 /// A refusal where the test holds.
 pub fn refuse_if(test: bool, cause: Cause) -> Result<(), Cause> {

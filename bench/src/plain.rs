@@ -305,9 +305,9 @@ impl<'a> Month<'a> {
         let fits = is_point(point) && is_version(number) && verdict <= 1 && day <= LAST_DAY;
         refuse_if(!fits, Cause::BadField)?;
         self.check_day(day)?;
-        let active = self.points[point as usize - 1].is_some();
-        refuse_if(!active, Cause::NotActive)?;
+        let active = self.points[point as usize - 1].ok_or(Cause::NotActive)?;
         let at = self.held(point, number).ok_or(Cause::NoVersion)?;
+        refuse_if(active.last != Some(at), Cause::OlderVersion)?;
         refuse_if(self.versions[at].status != 1, Cause::NotCheckData)?;
         match verdict {
             0 => Ok(()),

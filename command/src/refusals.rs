@@ -128,7 +128,8 @@ impl<'a> Before<'a> {
                 self.opened,
             ),
             21 | 22 | 12 | 23 | 13 => self.bad_point(call, number).unwrap_or_else(fallback),
-            14 | 15 | 24 | 25 => self.bad_version(call, number).unwrap_or_else(fallback),
+            14 | 15 => self.bad_version(call, number).unwrap_or_else(fallback),
+            24 | 37 | 25 => self.bad_notice(call, number).unwrap_or_else(fallback),
             28 => {
                 let run = call.field("run");
                 let by = self.settled.get(&run).copied();
@@ -308,52 +309,50 @@ impl<'a> Before<'a> {
 
     fn bad_version(&self, call: &'a Call, number: u64) -> Option<Words<'a>> {
         let (point, version) = about(call);
-        let by = self.submitted.get(&(point, version)).copied();
+        let highest = self.highest(point)?;
+        let next = highest.field("version") + 1;
+        if number == 14 {
+            let by = self.submitted.get(&(point, version)).copied()?;
+            let why = format!(
+                "point {point} has version {version} already ({})",
+                by.place.short()
+            );
+            let mend = format!("take version {next} or higher, or leave the call out");
+            return Some((why, mend, Some(by)));
+        }
+        let why = format!(
+            "version {version} lies below version {}, which {} submitted",
+            highest.field("version"),
+            highest.place.short()
+        );
+        let mend = format!("take version {next} or higher");
+        Some((why, mend, Some(highest)))
+    }
+
+    fn bad_notice(&self, call: &'a Call, number: u64) -> Option<Words<'a>> {
+        let (point, version) = about(call);
         let highest = self.highest(point);
-        let next = highest.map_or(1, |call| call.field("version") + 1);
-        Some(match number {
-            14 => {
-                let why = format!(
-                    "point {point} has version {version} already ({})",
-                    by?.place.short()
-                );
-                (
-                    why,
-                    format!("take version {next} or higher, or leave the call out"),
-                    by,
-                )
-            }
-            15 => {
-                let why = format!(
-                    "version {version} lies below version {}, which {} submitted",
-                    highest?.field("version"),
-                    highest?.place.short()
-                );
-                (why, format!("take version {next} or higher"), highest)
-            }
-            24 => self.no_version(point, version, highest),
-            _ => {
-                if let Some(notice) = self.noticed.get(&(point, version)) {
-                    let why = format!(
-                        "version {version} is no check data: {} gave it its positive notice",
-                        notice.place.short()
-                    );
-                    return Some((why, "nothing: it counts already".to_string(), Some(notice)));
-                }
-                let (by, limit) = (by?, self.opening("first"));
-                let why = format!(
-                    "version {version} is no check data: {} submitted it on day {}, and the first delivery lasts to day {}",
-                    by.place.short(),
-                    self.shown(by.field("day")),
-                    self.shown(limit)
-                );
-                (
-                    why,
-                    "nothing: it counts without a notice".to_string(),
-                    Some(by),
-                )
-            }
-        })
+        match number {
+            24 => Some(self.no_version(point, version, highest)),
+            37 => Some(self.notice_below(version, highest?)),
+            _ => self.no_check_data(point, version),
+        }
+    }
+
+    /// Whether a submitted version waits for its positive notice.
+    fn is_check_data(&self, submitted: &Call) -> bool {
+        submitted.field("day") > self.opening("first")
+            && !self.noticed.contains_key(&about(submitted))
+    }
+
+    /// What mends a notice on a version below the point's highest.
+    fn for_highest(&self, highest: &Call) -> String {
+        let version = highest.field("version");
+        if self.is_check_data(highest) {
+            format!("give the notice for version {version}, the highest, or leave the call out")
+        } else {
+            format!("leave the call out: version {version}, the highest, counts already")
+        }
     }
 
     fn no_version(&self, point: u64, version: u64, highest: Option<&'a Call>) -> Words<'a> {
@@ -362,19 +361,55 @@ impl<'a> Before<'a> {
             let why = format!("point {point} has no version {version}: its submission in {place} was refused, {number}");
             return (why, format!("correct {place}"), Some(by));
         }
-        let has = match highest {
-            Some(call) => format!(
-                "its highest is {}, of {}",
-                call.field("version"),
-                call.place.short()
-            ),
-            None => "it has no version at all".to_string(),
+        let Some(highest) = highest else {
+            return (
+                format!("point {point} has no version {version}: it has no version at all"),
+                format!("submit version {version} first, or leave the call out"),
+                None,
+            );
         };
-        (
-            format!("point {point} has no version {version}: {has}"),
-            "name a version that was submitted".to_string(),
-            None,
-        )
+        let last = highest.field("version");
+        let why = format!(
+            "point {point} has no version {version}: its highest is {last}, of {}",
+            highest.place.short()
+        );
+        let mend = if version < last {
+            self.for_highest(highest)
+        } else if self.is_check_data(highest) {
+            format!("give the notice for version {last}, or submit version {version} first")
+        } else {
+            format!("submit version {version} first, or leave the call out")
+        };
+        (why, mend, None)
+    }
+
+    fn notice_below(&self, version: u64, highest: &'a Call) -> Words<'a> {
+        let why = format!(
+            "version {version} lies below version {}, the point's highest, which {} submitted on day {}",
+            highest.field("version"),
+            highest.place.short(),
+            self.shown(highest.field("day"))
+        );
+        (why, self.for_highest(highest), Some(highest))
+    }
+
+    fn no_check_data(&self, point: u64, version: u64) -> Option<Words<'a>> {
+        if let Some(notice) = self.noticed.get(&(point, version)) {
+            let why = format!(
+                "version {version} is no check data: {} gave it its positive notice",
+                notice.place.short()
+            );
+            return Some((why, "nothing: it counts already".to_string(), Some(notice)));
+        }
+        let by = self.submitted.get(&(point, version)).copied()?;
+        let why = format!(
+            "version {version} is no check data: {} submitted it on day {}, and the first delivery lasts to day {}",
+            by.place.short(),
+            self.shown(by.field("day")),
+            self.shown(self.opening("first"))
+        );
+        let mend = "nothing: it counts without a notice".to_string();
+        Some((why, mend, Some(by)))
     }
 
     fn bad_field(&self, call: &'a Call, energies: &[i64]) -> Words<'a> {

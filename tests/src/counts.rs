@@ -3,6 +3,7 @@
 
 use crate::call::{Call, Lengths};
 use crate::desk::{Answer, Desk, LOG_ROW, MOST_VERSIONS};
+use crate::notices;
 use crate::tally::Tally;
 use crate::worked::{Month, Point, Version};
 
@@ -15,6 +16,7 @@ pub fn called(tally: &mut Tally, desk: &mut Desk, call: &Call, lent: Lengths) ->
         (Answer::Refused(number), None) => count_unopened(tally, call, *number),
         (Answer::Refused(number), Some(before)) => {
             tally.add(call.name(), *number);
+            notices::count(tally, before, call, *number);
             count_refused(tally, before, lent, *number);
         }
         (Answer::Status(status), _) => tally.add("status given", *status),
@@ -22,6 +24,8 @@ pub fn called(tally: &mut Tally, desk: &mut Desk, call: &Call, lent: Lengths) ->
         (_, Some(before)) => {
             tally.add(call.name(), 0);
             let after = desk.month().expect("an open desk");
+            notices::count(tally, before, call, 0);
+            notices::assert_followed(before, &after, call);
             count_accepted(tally, before, &after, call);
         }
     }
@@ -72,10 +76,7 @@ fn count_accepted(tally: &mut Tally, before: &Month, after: &Month, call: &Call)
             tally.add("kind of the series submitted", point.kind);
             count_selection(tally, after, point, gained);
         }
-        (Call::Notice { version, .. }, Some(point)) => {
-            count_selection(tally, after, point, gained);
-            count_notice(tally, point, *version, gained);
-        }
+        (Call::Notice { .. }, Some(point)) => count_selection(tally, after, point, gained),
         (Call::Assign { area, .. }, _) if before.figures(1) != after.figures(1) => {
             tally.add("assign that moves a delta", u64::from(*area > 0));
         }
@@ -92,25 +93,6 @@ fn count_selection(tally: &mut Tally, after: &Month, point: &Point, gained: bool
     }
     if gained && on_one_row(after, point) {
         tally.add("both sides on one row", point.kind);
-    }
-}
-
-/// A notice, by what it makes of its version.
-fn count_notice(tally: &mut Tally, point: &Point, version: u64, gained: bool) {
-    let status = point.version(version).map_or(0, |v| v.status);
-    if status == 1 {
-        tally.add("negative notice", 0);
-        return;
-    }
-    if point.versions.iter().any(|v| v.number > version) {
-        tally.add("positive notice, older version", status);
-    }
-    if !gained {
-        tally.add("notice below the selected one", 0);
-    }
-    let own = |run| point.own(run).map(|v| v.number);
-    if gained && own(2).is_some() && own(2) < own(1) {
-        tally.add("run 2's own below run 1's", 0);
     }
 }
 

@@ -5,8 +5,8 @@ use crate::worked::{signed, Month, ROWS};
 use std::iter::once;
 
 /// The numbers of the table of causes, in its order.
-pub const CAUSES: [u64; 22] = [
-    1, 2, 3, 6, 4, 5, 11, 26, 21, 22, 12, 23, 13, 14, 15, 24, 25, 16, 17, 27, 28, 29,
+pub const CAUSES: [u64; 23] = [
+    1, 2, 3, 6, 4, 5, 11, 26, 21, 22, 12, 23, 13, 14, 15, 24, 37, 25, 16, 17, 27, 28, 29,
 ];
 
 /// Most versions that a desk holds.
@@ -118,7 +118,7 @@ impl Desk {
             (23, Call::Deactivate { .. }) => active.is_some_and(|p| !p.versions.is_empty()),
             (13, Call::Submit { day, .. }) => active.is_some_and(|p| *day < p.since + 2),
             (14, Call::Submit { point, version, .. }) => month.version(*point, *version).is_some(),
-            (15, Call::Submit { version, .. }) => {
+            (15, Call::Submit { version, .. }) | (37, Call::Notice { version, .. }) => {
                 active.is_some_and(|p| p.versions.iter().any(|v| v.number > *version))
             }
             (24, Call::Notice { point, version, .. } | Call::Status { point, version }) => {

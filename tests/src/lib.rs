@@ -1,6 +1,6 @@
-//! A second implementation of document 01 and of document 02's calendar and statuses, written from the papers alone, and
-//! what its comparison with the proved libraries needs. The comparisons themselves stand in `tests/`, one file for each thing
-//! compared.
+//! A second implementation of document 01 and of document 02's calendar, statuses and notices, written from the papers
+//! alone, and what its comparison with the proved libraries needs. The comparisons themselves stand in `tests/`, one file for
+//! each thing compared.
 //!
 //! | module | what it is |
 //! |---|---|
@@ -20,6 +20,7 @@
 //! | `damage` | the fields of the desk's state with their limits |
 //! | `compare` | a month with both desks, and the shortest list of calls where they differ |
 //! | `counts` | which cases the compared calls and selected versions were |
+//! | `notices` | which cases the compared notices were, and what they come to on a desk that was fresh |
 //! | `tally` | how often each answer was compared |
 
 #![warn(missing_docs)]
@@ -36,6 +37,7 @@ pub mod generator;
 pub mod linked;
 pub mod message;
 pub mod months;
+pub mod notices;
 pub mod numbers;
 mod pick;
 pub mod program;

@@ -3,7 +3,7 @@
 use crate::call::{Call, Lengths};
 use crate::generator::Random;
 use crate::months::{any_call, changed, Plan, Size};
-use crate::worked::{Month, Point};
+use crate::worked::{Month, Point, Version};
 
 /// Largest energy.
 const LARGEST: i64 = 1_000_000_000_000;
@@ -46,6 +46,7 @@ impl<'a> Pick<'a> {
             }
             _ if self.due().is_some() => [1, 1, 1, 6, 24, 2, 1, 1, 6],
             _ if self.month.points.len() < 3 => [1, 40, 2, 12, 2, 4, 2, 2, 4],
+            _ if self.is_corrected() => [2, 4, 3, 44, 44, 3, 7, 8, 7],
             _ => [2, 9, 6, 40, 28, 9, 7, 8, 7],
         };
         let mut choice = self.random.below(weights.iter().sum());
@@ -99,7 +100,12 @@ impl<'a> Pick<'a> {
         length.min(most)
     }
 
-    /// Today: the day that the month has come to, seldom another.
+    /// The day that the month has come to.
+    fn today(&self) -> u64 {
+        self.month.day.max(self.planned)
+    }
+
+    /// Today, seldom another day.
     fn day(&mut self) -> u64 {
         let Month {
             day,
@@ -108,7 +114,7 @@ impl<'a> Pick<'a> {
             correction,
             ..
         } = *self.month;
-        let today = day.max(self.planned);
+        let today = self.today();
         match self.among(64) {
             0..=2 => day.wrapping_sub(1),
             3 => today + 1,
@@ -216,7 +222,7 @@ impl<'a> Pick<'a> {
 
     /// Mostly a point that is active for two days.
     fn ripe_point(&mut self) -> u64 {
-        let today = self.month.day.max(self.planned);
+        let today = self.today();
         let unripe = |active: &Point| active.since + 2 > today;
         let mut point = self.point();
         for _ in 0..3 {
@@ -230,7 +236,7 @@ impl<'a> Pick<'a> {
     fn submit(&mut self) -> Call {
         let point = self.ripe_point();
         let active = self.month.points.get(&point);
-        let highest = active.and_then(|p| p.versions.iter().map(|v| v.number).max());
+        let highest = active.and_then(Point::newest).map(|v| v.number);
         let above = 1 + self.random.below(3) as u64;
         let version = match highest {
             None if self.random.once_in(100) => 99_999_999_999_999 - self.random.below(9) as u64,
@@ -261,31 +267,43 @@ impl<'a> Pick<'a> {
         }
     }
 
-    /// One of the versions, mostly of a status that is looked for.
-    fn version(&mut self, status: Option<u64>) -> (u64, u64) {
-        let versions = |wanted: Option<u64>| {
-            let points = self.month.points.iter();
-            let versions =
-                points.flat_map(|(&point, p)| p.versions.iter().map(move |v| (point, v)));
-            let versions = versions.filter(move |(_, v)| wanted.is_none_or(|s| s == v.status));
-            versions.map(|(point, v)| (point, v.number)).collect()
-        };
-        let mut found: Vec<(u64, u64)> = versions(status);
+    /// One of the versions, mostly of those that are looked for.
+    fn version(&mut self, wanted: impl Fn(&Point, &Version) -> bool) -> (u64, u64) {
+        let points = self.month.points.iter();
+        let all = points.flat_map(|(&point, p)| p.versions.iter().map(move |v| (point, p, v)));
+        let all: Vec<(u64, &Point, &Version)> = all.collect();
+        let mut found = all.clone();
+        found.retain(|(_, p, v)| wanted(p, v));
         if found.is_empty() || self.random.once_in(8) {
-            found = versions(None);
+            found = all;
         }
         if found.is_empty() || self.random.once_in(16) {
             return (self.point(), 1 + self.random.below(6) as u64);
         }
-        self.random.of(&found)
+        let (point, _, version) = self.random.of(&found);
+        (point, version.number)
+    }
+
+    /// A version for a notice: mostly a point's highest that is check data; else an older one, of status 3 or 4 where there is
+    /// one, or a number beside the highest.
+    fn noticed(&mut self) -> (u64, u64) {
+        let is_newest = |p: &Point, v: &Version| p.newest().is_some_and(|n| n.number == v.number);
+        match self.random.below(16) {
+            0..=3 => self.version(|p, v| !is_newest(p, v) && v.status > 2),
+            4 => {
+                let (point, newest) = self.version(is_newest);
+                (point, self.random.of(&[newest - 1, newest + 1]))
+            }
+            _ => self.version(|p, v| is_newest(p, v) && v.status == 1),
+        }
     }
 
     fn notice(&mut self) -> Call {
-        let (point, version) = self.version(Some(1));
+        let (point, version) = self.noticed();
         Call::Notice {
             point,
             version,
-            verdict: u64::from(!self.random.once_in(6)),
+            verdict: u64::from(!self.random.once_in(4)),
             day: self.day(),
         }
     }
@@ -317,7 +335,7 @@ impl<'a> Pick<'a> {
     }
 
     fn status(&mut self) -> Call {
-        let (point, version) = self.version(None);
+        let (point, version) = self.version(|_, _| true);
         Call::Status { point, version }
     }
 
@@ -334,11 +352,16 @@ impl<'a> Pick<'a> {
         let Size::Settled(_) = self.plan.size else {
             return None;
         };
-        let today = self.month.day.max(self.planned);
+        let today = self.today();
         match self.month.settled {
             [false, _] if today > self.month.clearing => Some(1),
             [true, false] if today > self.month.correction => Some(2),
             _ => None,
         }
+    }
+
+    /// Whether run 1 is settled and run 2 takes corrections.
+    fn is_corrected(&self) -> bool {
+        self.month.settled[0] && self.today() <= self.month.correction
     }
 }

@@ -44,6 +44,11 @@ impl Point {
         self.versions.iter().find(|v| v.number == number)
     }
 
+    /// The highest version, whatever its status.
+    pub fn newest(&self) -> Option<&Version> {
+        self.versions.iter().max_by_key(|v| v.number)
+    }
+
     /// The highest version that has one of two statuses.
     fn highest(&self, statuses: [u64; 2]) -> Option<&Version> {
         let counted = self.versions.iter();

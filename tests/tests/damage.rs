@@ -1,4 +1,5 @@
-//! Cause 1: each field of the desk's state at the last value inside its limits and at the first outside them.
+//! Cause 1: each field of the desk's state at the last value inside its limits and at the first outside them; and notices on
+//! versions that somebody else wrote.
 
 use emorizugu_tests::call::{Call, Lengths};
 use emorizugu_tests::compare::{compare, expected, Step, Trial};
@@ -230,5 +231,104 @@ fn no_quarters() {
         assert_eq!(anew.stores.book, plain.outcome.stores.book);
         assert_eq!(anew.stores.log, plain.outcome.stores.log);
         assert_eq!(anew.stores.values, plain.outcome.stores.values);
+    }
+}
+
+/// A version overwritten: its place in the table, and its number, point, row and status.
+type Written = (u64, [u64; 4]);
+
+/// A notice's point and version, and its answer where the log has rows.
+type Noticed = (u64, u64, u64);
+
+/// Versions 5 and 6 of point 1 and 7 of point 256, all check data, overwritten; and what notices are answered then.
+const NOTICES: [(&str, &[Written], &[Noticed]); 7] = [
+    (
+        "as the calls left them",
+        &[],
+        &[(1, 5, 37), (1, 6, 0), (1, 7, 24), (256, 7, 0)],
+    ),
+    (
+        "the highest stands first in the table",
+        &[(0, [9, 1, 0, 1])],
+        &[(1, 9, 0), (1, 6, 37), (1, 5, 24)],
+    ),
+    (
+        "the highest stands first, confirmed",
+        &[(0, [9, 1, 0, 4])],
+        &[(1, 9, 25), (1, 6, 37)],
+    ),
+    (
+        "the last one is of the same point",
+        &[(2, [7, 1, 2, 3])],
+        &[(1, 5, 37), (1, 6, 37), (1, 7, 25), (256, 7, 24)],
+    ),
+    (
+        "the second one is of the other point",
+        &[(1, [6, 256, 1, 1])],
+        &[(1, 5, 0), (1, 6, 24), (256, 6, 37), (256, 7, 0)],
+    ),
+    (
+        "a number and its like at the other point",
+        &[(1, [7, 1, 1, 2])],
+        &[(1, 5, 37), (1, 7, 25), (256, 7, 0)],
+    ),
+    (
+        "a record past the count",
+        &[(3, [8, 1, 3, 1])],
+        &[(1, 6, 0), (1, 8, 24)],
+    ),
+];
+
+/// The answer to a notice on day 20, by C, on such a desk with so many log rows used.
+fn noticed(written: &[Written], rows: u64, (point, version, verdict): (u64, u64, u64)) -> u64 {
+    let calls: [&[u64]; 5] = [
+        CALLS[1],
+        CALLS[2],
+        &[4, 1, 5, 11, 100, 200],
+        &[4, 1, 6, 11, 101, 201],
+        &[4, 256, 7, 11, 30, 40],
+    ];
+    let set = |which, place, to| Record::Damage(Damage { which, place, to });
+    let record = |numbers: &[u64]| Record::Call(call(numbers), LENT);
+    let mut records = vec![record(CALLS[0])];
+    records.extend(calls.map(record));
+    records.extend(written.iter().map(|&(place, to)| set(16, place, to)));
+    records.push(set(11, 0, [rows, 0, 0, 0]));
+    records.push(record(&[5, point, version, verdict, 20]));
+    let answers = script::run(&records, month().stores()).answers;
+    answers.last().expect("answers")[0]
+}
+
+/// A notice whose answer is 0 where the log has rows is positive or negative; where it has none, a positive one gets 17.
+fn assert_noticed(why: &str, written: &[Written], (point, version, answer): Noticed) {
+    let full = if answer == 0 { 17 } else { answer };
+    for (rows, verdict, answer) in [(0, 0, answer), (0, 1, answer), (5, 0, answer), (5, 1, full)] {
+        let given = noticed(written, rows, (point, version, verdict));
+        let notice = format!("point {point} version {version} verdict {verdict}");
+        assert_eq!(given, answer, "{why}: {notice}, {rows} rows used");
+    }
+}
+
+#[test]
+fn notices_on_versions_that_somebody_else_wrote() {
+    for (why, written, notices) in NOTICES {
+        for &notice in notices {
+            assert_noticed(why, written, notice);
+        }
+    }
+}
+
+/// An older version is answered 37 whatever the statuses are, the highest by its own: also where no desk that was fresh has
+/// them on a day up to K.
+#[test]
+fn notices_on_versions_of_every_status() {
+    for older in 1..=5 {
+        for highest in 1..=5 {
+            let written = [(0, [5, 1, 0, older]), (1, [6, 1, 1, highest])];
+            let why = format!("statuses {older} and {highest}");
+            assert_noticed(&why, &written, (1, 5, 37));
+            let answer = if highest == 1 { 0 } else { 25 };
+            assert_noticed(&why, &written, (1, 6, answer));
+        }
     }
 }

@@ -8,6 +8,7 @@ use emorizugu_tests::desk::CAUSES;
 use emorizugu_tests::generator::Random;
 use emorizugu_tests::linked;
 use emorizugu_tests::months::{self, Size, BEYOND, ENDS};
+use emorizugu_tests::notices::{FULL_LOG, NOTICES};
 use emorizugu_tests::script::{self, Record, Stores};
 use emorizugu_tests::tally::Tally;
 
@@ -26,7 +27,7 @@ const ANSWERS: [(&str, &[u64]); 9] = [
     ("activate", &[0, 3, 5, 11, 21, 22]),
     ("deactivate", &[0, 3, 5, 11, 12, 23]),
     ("submit", &[0, 2, 3, 5, 11, 12, 13, 14, 15, 16, 17]),
-    ("notice", &[0, 2, 3, 5, 11, 12, 17, 24, 25]),
+    ("notice", &[0, 2, 3, 5, 11, 12, 17, 24, 25, 37]),
     ("assign", &[0, 2, 3, 5, 26]),
     ("show", &[0, 2, 3]),
     ("status", &[3, 12, 24]),
@@ -34,7 +35,7 @@ const ANSWERS: [(&str, &[u64]); 9] = [
 ];
 
 /// Cases that a month can have, with the numbers that they are counted by.
-const CASES: [(&str, &[u64]); 15] = [
+const CASES: [(&str, &[u64]); 11] = [
     ("desk not open", &[1]),
     ("status given", &[1, 2, 3, 4, 5]),
     ("values of another length", &[2]),
@@ -45,10 +46,6 @@ const CASES: [(&str, &[u64]); 15] = [
     ("both sides on one row", &[1, 2, 3, 4, 5]),
     ("run settled", &[1, 2]),
     ("assign that moves a delta", &[0, 1]),
-    ("positive notice, older version", &[2, 4]),
-    ("negative notice", &[0]),
-    ("notice below the selected one", &[0]),
-    ("run 2's own below run 1's", &[0]),
     ("log full and no row due", &[0]),
 ];
 
@@ -73,8 +70,9 @@ fn months_agree() {
         compare(&cut(&month, steps), &mut Tally::new());
     }
     tally.print();
-    for (what, answers) in ANSWERS.into_iter().chain(CASES) {
-        tally.demand(what, answers, LEAST);
+    let cases = CASES.into_iter().chain(NOTICES).chain([FULL_LOG]);
+    for (what, numbers) in ANSWERS.into_iter().chain(cases) {
+        tally.demand(what, numbers, LEAST);
     }
     for field in FIELDS.iter().filter(|field| !WIDE.contains(&field.name)) {
         assert!(tally.all(field.name) >= LEAST, "damage to {}", field.name);
@@ -152,6 +150,7 @@ fn refused_calls_change_nothing() {
         assert_eq!(end, &without.answers[at..], "{}", lines(&going_on));
     }
     tally.print();
+    assert!(tally.count("notice", 37) >= LEAST);
     assert_eq!(
         ANSWERS.iter().map(|(call, _)| tally.all(call)).sum::<u64>(),
         36_000
@@ -197,9 +196,9 @@ fn accepted() -> Trial {
         &[7, 2, 1],
         &[8, 1, 5],
         &[4, 2, 1, 11, 10, 20],
-        &[4, 2, 3, 11, 11, 21],
-        &[5, 2, 3, 1, 30],
-        &[5, 2, 1, 1, 31],
+        &[5, 2, 1, 1, 30],
+        &[4, 2, 3, 30, 11, 21],
+        &[5, 2, 3, 1, 31],
         &[9, 1, 31],
         &[9, 2, 151],
     ];

@@ -1,11 +1,13 @@
-//! The files that document 01 writes out, and those that its decided points and document 02's lines of selected versions do.
+//! The files that document 01 writes out, and those that its decided points and document 02's lines of selected versions and
+//! its notices do.
 
 use emorizugu_tests::call::Lengths;
 use emorizugu_tests::linked;
+use emorizugu_tests::message;
 use emorizugu_tests::numbers::{self, ANSWER, NO_CALL};
 use emorizugu_tests::program;
 use emorizugu_tests::replay::{self, Lent, POINT, POINTS, REPORT, VERSIONS};
-use emorizugu_tests::script::Stores;
+use emorizugu_tests::script::{self, Outcome, Record, Stores};
 use std::env;
 
 /// The bytes of a line of hexadecimal pairs; `XX*n` is the pair n times.
@@ -398,12 +400,12 @@ const SELECTIONS: [Selections; 15] = [
         log: &[],
     },
     Selections {
-        why: "run 2's own below what run 1 selects",
+        why: "run 2 has no own below what run 1 selects",
         calls: [&AFTER_FIRST, &["05 01 02 01 1E", "05 01 01 01 1F", SETTLE_1]],
-        answers: &[0; 7],
-        figures: "G 1 1 1 6\nT 1 1 6\nG 2 1 1 5\nT 2 1 5\n",
-        selected: "S 1 1 2 3\nS 2 1 1 4\n",
-        log: &[[30, 1, 1, 2], [31, 1, 2, 1]],
+        answers: &[0, 0, 0, 0, 0, 37, 0],
+        figures: "G 1 1 1 6\nT 1 1 6\nG 2 1 1 6\nT 2 1 6\n",
+        selected: "S 1 1 2 3\nS 2 1 2 3\n",
+        log: &[[30, 1, 1, 2]],
     },
     Selections {
         why: "run 2's own, and none in run 1",
@@ -454,6 +456,250 @@ const SELECTIONS: [Selections; 15] = [
         ],
     },
 ];
+
+/// Versions 5 and 7 of point 1, 5 and 7 Wh, both on day 11.
+const WITH_A_GAP: [&str; 4] = [OPEN, POINT_1, "04 01 05 0B 01 0A", "04 01 07 0B 01 0E"];
+
+/// Version 1 of point 1, 5 Wh, on day 2; version 2, 6 Wh, on day 11, with a positive notice on day 31; run 1 settled; version 3,
+/// 7 Wh, on day 32.
+const SETTLED_AND_CORRECTED: [&str; 7] = [
+    OPEN,
+    POINT_1,
+    "04 01 01 02 01 0A",
+    "04 01 02 0B 01 0C",
+    "05 01 02 01 1F",
+    SETTLE_1,
+    "04 01 03 20 01 0E",
+];
+
+/// Document 02: "a notice counts only for the highest version that a point has"; else 37, "checked after 24 and before 25".
+const NOTICES: [Selections; 13] = [
+    Selections {
+        why: "a positive and a negative notice on check data below check data",
+        calls: [&AFTER_FIRST, &["05 01 01 01 0C", "05 01 01 00 0C"]],
+        answers: &[0, 0, 0, 0, 37, 37],
+        figures: "T 1 1 0\nT 2 1 0\n",
+        selected: "",
+        log: &[],
+    },
+    Selections {
+        why: "on check data below a version of status 2",
+        calls: [
+            &WITH_A_GAP,
+            &["05 01 07 01 0C", "05 01 05 01 0D", "05 01 05 00 0D"],
+        ],
+        answers: &[0, 0, 0, 0, 0, 37, 37],
+        figures: "G 1 1 1 7\nT 1 1 7\nG 2 1 1 7\nT 2 1 7\n",
+        selected: "S 1 1 7 2\nS 2 1 7 2\n",
+        log: &[[12, 1, 1, 7]],
+    },
+    Selections {
+        why: "on check data below a version of status 3",
+        calls: [
+            &WITH_A_GAP,
+            &[
+                "05 01 07 01 1E",
+                SETTLE_1,
+                "05 01 05 01 1F",
+                "05 01 05 00 1F",
+            ],
+        ],
+        answers: &[0, 0, 0, 0, 0, 0, 37, 37],
+        figures: "G 1 1 1 7\nT 1 1 7\nG 2 1 1 7\nT 2 1 7\n",
+        selected: "S 1 1 7 3\nS 2 1 7 3\n",
+        log: &[[30, 1, 1, 7]],
+    },
+    Selections {
+        why: "on check data below a version of status 4",
+        calls: [
+            &WITH_A_GAP,
+            &["05 01 07 01 1F", "05 01 05 01 20", "05 01 05 00 20"],
+        ],
+        answers: &[0, 0, 0, 0, 0, 37, 37],
+        figures: "T 1 1 0\nG 2 1 1 7\nT 2 1 7\n",
+        selected: "S 2 1 7 4\n",
+        log: &[[31, 1, 2, 7]],
+    },
+    Selections {
+        why: "on an older version of status 2: 37 before 25; on the highest 25",
+        calls: [
+            &BY_FIRST,
+            &[
+                "05 01 01 01 0C",
+                "05 01 01 00 0C",
+                "05 01 02 01 0C",
+                "05 01 02 00 0C",
+            ],
+        ],
+        answers: &[0, 0, 0, 0, 37, 37, 25, 25],
+        figures: "G 1 1 1 6\nT 1 1 6\nG 2 1 1 6\nT 2 1 6\n",
+        selected: "S 1 1 2 2\nS 2 1 2 2\n",
+        log: &[[2, 1, 1, 1], [3, 1, 1, 2]],
+    },
+    Selections {
+        why: "on older versions of status 3 and 4; the highest becomes run 2's own",
+        calls: [
+            &SETTLED_AND_CORRECTED,
+            &[
+                "05 01 01 01 21",
+                "05 01 01 00 21",
+                "05 01 02 01 21",
+                "05 01 02 00 21",
+                "05 01 03 01 21",
+                "05 01 03 00 21",
+            ],
+        ],
+        answers: &[0, 0, 0, 0, 0, 0, 0, 37, 37, 37, 37, 0, 25],
+        figures: "G 1 1 1 5\nT 1 1 5\nG 2 1 1 7\nT 2 1 7\n",
+        selected: "S 1 1 1 3\nS 2 1 3 4\n",
+        log: &[[2, 1, 1, 1], [31, 1, 2, 2], [33, 1, 2, 3]],
+    },
+    Selections {
+        why: "on numbers below, between and above the versions: 24 before 37",
+        calls: [
+            &WITH_A_GAP,
+            &[
+                "05 01 06 01 0C",
+                "05 01 06 00 0C",
+                "05 01 04 01 0C",
+                "05 01 08 01 0C",
+                "05 01 05 01 0C",
+                "05 01 07 01 0C",
+            ],
+        ],
+        answers: &[0, 0, 0, 0, 24, 24, 24, 24, 37, 0],
+        figures: "G 1 1 1 7\nT 1 1 7\nG 2 1 1 7\nT 2 1 7\n",
+        selected: "S 1 1 7 2\nS 2 1 7 2\n",
+        log: &[[12, 1, 1, 7]],
+    },
+    Selections {
+        why: "another point has a higher version",
+        calls: [
+            &[
+                OPEN,
+                POINT_1,
+                POINT_2,
+                "04 01 01 0B 01 0A",
+                "04 02 09 0B 01 14",
+            ],
+            &[
+                "05 01 09 01 0C",
+                "05 01 01 00 0C",
+                "05 01 01 01 0C",
+                "05 02 09 01 0C",
+            ],
+        ],
+        answers: &[0, 0, 0, 0, 0, 24, 0, 0, 0],
+        figures: "G 1 1 1 -5\nG 1 1 5 10\nT 1 1 5\nG 2 1 1 -5\nG 2 1 5 10\nT 2 1 5\n",
+        selected: "S 1 1 1 2\nS 1 2 9 2\nS 2 1 1 2\nS 2 2 9 2\n",
+        log: &[[12, 1, 1, 1], [12, 2, 1, 9]],
+    },
+    Selections {
+        why: "37 moves no day; a version is the highest until the next is submitted",
+        calls: [
+            &AFTER_FIRST,
+            &[
+                "05 01 01 01 14",
+                "05 01 02 00 0C",
+                "04 01 03 0D 01 0E",
+                "05 01 02 01 14",
+                "05 01 03 01 0D",
+                "05 01 03 01 0C",
+            ],
+        ],
+        answers: &[0, 0, 0, 0, 37, 0, 0, 37, 0, 5],
+        figures: "G 1 1 1 7\nT 1 1 7\nG 2 1 1 7\nT 2 1 7\n",
+        selected: "S 1 1 3 2\nS 2 1 3 2\n",
+        log: &[[13, 1, 1, 3]],
+    },
+    Selections {
+        why: "on a confirmed version, before and after a newer one",
+        calls: [
+            &[OPEN, POINT_1, "04 01 01 0B 01 0A", "05 01 01 01 0C"],
+            &[
+                "05 01 01 01 0C",
+                "04 01 02 0D 01 0C",
+                "05 01 01 01 0D",
+                "05 01 01 00 0D",
+            ],
+        ],
+        answers: &[0, 0, 0, 0, 25, 0, 37, 37],
+        figures: "G 1 1 1 5\nT 1 1 5\nG 2 1 1 5\nT 2 1 5\n",
+        selected: "S 1 1 1 2\nS 2 1 1 2\n",
+        log: &[[12, 1, 1, 1]],
+    },
+    Selections {
+        why: "3, 5, 11 and 12 before 37; the days C, C + 1 and K",
+        calls: [
+            &AFTER_FIRST,
+            &[
+                "05 01 01 02 0C",
+                "05 01 01 01 0A",
+                "05 01 01 01 97 01",
+                "05 02 01 01 0C",
+                "05 01 01 01 1E",
+                "05 01 01 01 1F",
+                "05 01 01 01 96 01",
+                "05 01 02 01 96 01",
+            ],
+        ],
+        answers: &[0, 0, 0, 0, 3, 5, 11, 12, 37, 37, 37, 0],
+        figures: "T 1 1 0\nG 2 1 1 6\nT 2 1 6\n",
+        selected: "S 2 1 2 4\n",
+        log: &[[150, 1, 2, 2]],
+    },
+    Selections {
+        why: "on an older version of status 5: 5 or 11, since run 2 is settled after K",
+        calls: [
+            &SETTLED_AND_CORRECTED,
+            &[SETTLE_2, "05 01 02 01 96 01", "05 01 02 01 97 01"],
+        ],
+        answers: &[0, 0, 0, 0, 0, 0, 0, 0, 5, 11],
+        figures: "G 1 1 1 5\nT 1 1 5\nG 2 1 1 6\nT 2 1 6\n",
+        selected: "S 1 1 1 3\nS 2 1 2 5\n",
+        log: &[[2, 1, 1, 1], [31, 1, 2, 2]],
+    },
+    Selections {
+        why: "the last versions that there are",
+        calls: [
+            &[
+                OPEN,
+                POINT_1,
+                "04 01 FE FF E8 83 B1 DE 16 0B 01 0A",
+                "04 01 FF FF E8 83 B1 DE 16 0B 01 0C",
+            ],
+            &[
+                "05 01 FE FF E8 83 B1 DE 16 01 0C",
+                "05 01 FF FF E8 83 B1 DE 16 01 0C",
+            ],
+        ],
+        answers: &[0, 0, 0, 0, 37, 0],
+        figures: "G 1 1 1 6\nT 1 1 6\nG 2 1 1 6\nT 2 1 6\n",
+        selected: "S 1 1 99999999999999 2\nS 2 1 99999999999999 2\n",
+        log: &[[12, 1, 1, 99_999_999_999_999]],
+    },
+];
+
+/// Calls with their answers where the log has one row, which version 1 of point 1 takes on day 2; versions 2 and 3 are check
+/// data.
+const FULL_LOG: [(&str, u64); 11] = [
+    (OPEN, 0),
+    (POINT_1, 0),
+    ("04 01 01 02 01 0A", 0),
+    ("04 01 02 0B 01 0C", 0),
+    ("04 01 03 0B 01 0E", 0),
+    ("05 01 02 01 0C", 37),
+    ("05 01 02 00 0C", 37),
+    ("05 01 01 01 0C", 37),
+    ("05 01 03 01 0C", 17),
+    ("05 01 03 00 0B", 0),
+    ("05 01 03 01 1F", 17),
+];
+
+/// The lists that are written out.
+fn written_out() -> impl Iterator<Item = &'static Selections> {
+    SELECTIONS.iter().chain(&NOTICES)
+}
 
 /// Files without a line S: refused ones, and those of a desk that is not open or has no version.
 const NONE_SELECTED: [(&str, &str); 5] = [
@@ -519,7 +765,7 @@ fn told(points: &[u64]) -> String {
 
 #[test]
 fn the_plain_desk_prints_the_selected_versions() {
-    for case in &SELECTIONS {
+    for case in written_out() {
         let printed = program::printed(&program::run(&case.file()));
         assert_eq!(printed, case.printed(), "{}", case.why);
     }
@@ -546,11 +792,52 @@ fn compare_replay(case: &Selections, replay: fn(&[u8], &mut Lent), left: usize) 
 /// A settle takes no row of the log: it is accepted where none is left.
 #[test]
 fn a_replay_tells_the_selected_versions() {
-    for case in &SELECTIONS {
+    for case in written_out() {
         for left in [0, 2] {
             compare_replay(case, plain_replay, left);
             compare_replay(case, linked_replay, left);
         }
+    }
+}
+
+/// A positive notice on the highest version owes a row, on another one it is refused before.
+#[test]
+fn a_replay_with_a_full_log_refuses_positive_notices() {
+    let (calls, answers): (Vec<&str>, Vec<u64>) = FULL_LOG.into_iter().unzip();
+    for replay in [plain_replay, linked_replay] {
+        let mut lent = lent(1);
+        replay(&bytes(&calls.join(" ")), &mut lent);
+        assert_eq!(lent.answers[..answers.len()], answers);
+        assert_eq!(lent.stores.log, [2, 1, 1, 1]);
+        assert_eq!(told(&lent.tables[1]), "S 1 1 1 2\nS 2 1 1 2\n");
+    }
+    let scripted = scripted(&bytes(&calls.join(" ")), 1);
+    assert_eq!(scripted.answers.concat(), answers);
+    assert_eq!(scripted.stores.log, [2, 1, 1, 1]);
+}
+
+/// The calls of a file of one quarter hour as a script, with a log of so many rows.
+fn scripted(file: &[u8], rows: usize) -> Outcome {
+    let lent = Lengths {
+        values: 16,
+        book: 162,
+        log: 4 * rows as u64,
+    };
+    let (mut start, mut series, mut records) = (0, [0; 1], Vec::new());
+    while let Some(read) = message::read(file, start, &mut series).expect("a call") {
+        records.push(Record::Call(replay::call_of(&read, &series), lent));
+        start = read.next;
+    }
+    script::run(&records, Stores::filled(lent, 20))
+}
+
+#[test]
+fn a_script_answers_the_notices() {
+    for case in &NOTICES {
+        let Outcome { answers, stores } = scripted(&case.file(), 8);
+        assert_eq!(answers.concat(), case.answers, "{}", case.why);
+        let log = case.log.concat();
+        assert_eq!(stores.log[..log.len()], log, "{}", case.why);
     }
 }
 
@@ -576,7 +863,7 @@ fn the_program_prints_the_selected_versions() {
         let output = program::output(&named, file, file.len()).expect("a program that runs");
         String::from_utf8(output.stdout).expect("text")
     };
-    for case in &SELECTIONS {
+    for case in written_out() {
         assert_eq!(printed(&case.file()), case.printed(), "{}", case.why);
     }
     for (file, text) in NONE_SELECTED {

@@ -12,6 +12,7 @@ use emorizugu_tests::files::{self, Parts};
 use emorizugu_tests::generator::{Random, Shape};
 use emorizugu_tests::message::MOST_ENERGIES;
 use emorizugu_tests::months::{self, Size};
+use emorizugu_tests::notices;
 use emorizugu_tests::program::{self, MOST_BYTES, MOST_QUARTERS};
 use emorizugu_tests::replay::{Ending, Run};
 use emorizugu_tests::tally::Tally;
@@ -28,7 +29,7 @@ const LONG: u64 = 200;
 /// How often each ending and each case is to have been compared at least.
 const LEAST: u64 = 50;
 
-/// How often each status of a selected version is to have been compared at least.
+/// How often each status of a selected version, and 37, is to have been compared at least.
 const LEAST_STATUS: u64 = 300;
 
 /// The program that `EMORIZUGU_PROGRAM` names.
@@ -131,6 +132,7 @@ fn count(run: &Run, tally: &mut Tally) {
             tally.add("opening of more than 8", *answer);
         }
     }
+    notices::count_run(tally, run);
     let printed = selections_printed(run);
     let Some(month) = run.desk.month() else {
         tally.add("never opened", number);
@@ -238,9 +240,10 @@ fn the_program_prints_what_the_documents_say() {
     for (what, statuses) in counts::STATUSES {
         tally.demand(what, statuses, LEAST_STATUS);
     }
-    for (what, numbers) in counts::SELECTIONS {
+    for (what, numbers) in counts::SELECTIONS.into_iter().chain(notices::NOTICES) {
         tally.demand(what, numbers, LEAST);
     }
+    assert!(tally.count("notice", 37) >= LEAST_STATUS);
     for (_, name, _) in Shape::ALL {
         assert!(tally.all(name) >= 20, "{name}");
     }

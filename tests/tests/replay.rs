@@ -10,6 +10,7 @@ use emorizugu_tests::generator::{Random, Shape};
 use emorizugu_tests::linked;
 use emorizugu_tests::message::{self, MOST_ENERGIES};
 use emorizugu_tests::months::{self, Size, SPARE};
+use emorizugu_tests::notices;
 use emorizugu_tests::numbers::SHORT;
 use emorizugu_tests::replay::{
     self, Ending, Lent, Run, BOOK_ROWS, NAMES, POINTS, REPORT, VERSIONS,
@@ -34,7 +35,7 @@ const ANSWERS: [(&str, &[u64]); 7] = [
     ("activate", &[0, 1, 3, 5, 11, 21, 22]),
     ("deactivate", &[0, 1, 3, 5, 11, 12, 23]),
     ("submit", &[0, 1, 3, 5, 11, 12, 13, 14, 15, 16, 17]),
-    ("notice", &[0, 1, 3, 5, 11, 12, 17, 24, 25]),
+    ("notice", &[0, 1, 3, 5, 11, 12, 17, 24, 25, 37]),
     ("assign", &[0, 1, 3, 5, 26]),
     ("settle", &[0, 1, 3, 5, 27, 28, 29]),
 ];
@@ -157,6 +158,7 @@ impl Case {
         for (call, answer) in &run.answered {
             tally.add(call.name(), *answer);
         }
+        notices::count_run(tally, run);
         self.count_opening(run, tally);
         self.count_answers(run, tally);
     }
@@ -388,6 +390,9 @@ fn files_of_months_agree() {
     for (what, numbers) in counts::SELECTIONS {
         tally.demand(what, numbers, 50);
     }
+    for (what, numbers) in notices::NOTICES.into_iter().chain([notices::FULL_LOG]) {
+        tally.demand(what, numbers, 50);
+    }
     tally.demand("active, and no version selected", &[1, 2], LEAST_STATUS);
     tally.demand("room for no answer", &[0, 35], 20);
     tally.demand("room for one answer too few", &[35], LEAST);
@@ -400,7 +405,7 @@ fn files_of_months_agree() {
 #[test]
 fn long_files_agree() {
     let (mut random, mut tally) = (Random::new(12), Tally::new());
-    for _ in 0..60 {
+    for _ in 0..150 {
         let (case, _) = case(&mut random, Size::Versions);
         let run = case.compare(&mut tally);
         let month = run.as_ref().and_then(|run| run.desk.month());

@@ -1,5 +1,5 @@
-//! The plain desk alone against document 01: its sample month, its example, its traps and its decided points; and the status
-//! that comes with a selected version by document 02.
+//! The plain desk alone against document 01: its sample month, its example, its traps and its decided points; and against
+//! document 02: the status that comes with a selected version, and notices on the highest version only.
 
 use emorizugu_tests::call::{Call, Lengths};
 use emorizugu_tests::desk::{Answer, Desk};
@@ -231,23 +231,62 @@ fn program(file: &[u8]) -> String {
     text
 }
 
-/// "Taking the version confirmed last instead of the highest one of status 2 or 3".
+/// "Taking the version confirmed last instead of the highest one of status 2 or 3": an older one is not confirmed, so that
+/// both are the same.
 #[test]
-fn the_highest_version_is_selected_and_not_the_one_confirmed_last() {
+fn the_version_confirmed_last_is_the_highest() {
     let mut desk = activated();
     for call in [[4, 1, 1, 11, 10, 10], [4, 1, 2, 11, 20, 20]] {
         assert_eq!(give(&mut desk, &call), 0);
     }
     assert_eq!(row(&desk, 1, 65), [0, 0], "check data adds nothing");
     assert_eq!(give(&mut desk, &[5, 1, 2, 1, 20]), 0);
-    assert_eq!(give(&mut desk, &[5, 1, 1, 1, 21]), 0);
-    assert_eq!(status(&mut desk, 1, 1), Answer::Status(2));
+    assert_eq!(give(&mut desk, &[5, 1, 1, 1, 21]), 37);
+    assert_eq!(status(&mut desk, 1, 1), Answer::Status(1));
+    assert_eq!(give(&mut desk, &[4, 1, 3, 20, 30, 30]), 0);
     for run in 1..=2 {
         assert_eq!(row(&desk, run, 65), [20, 20]);
     }
+    assert_eq!(give(&mut desk, &[5, 1, 3, 1, 20]), 0);
+    for run in 1..=2 {
+        assert_eq!(row(&desk, run, 65), [30, 30]);
+    }
     let month = desk.month().expect("an open desk");
-    assert_eq!(month.log, [[20, 1, 1, 2]], "one row only");
-    assert_eq!(month.day, 21);
+    assert_eq!(month.log, [[20, 1, 1, 2], [20, 1, 1, 3]]);
+    assert_eq!(month.day, 20);
+}
+
+/// "A notice counts only for the highest version that a point has", checked after 24 and before 25.
+#[test]
+fn a_notice_counts_for_the_highest_version_only() {
+    let mut desk = activated();
+    let other = Lengths { log: 396, ..LENT };
+    let calls: [(&[u64], u64, &str); 14] = [
+        (&[4, 1, 5, 11, 5, 5], 0, ""),
+        (&[4, 1, 7, 11, 7, 7], 0, ""),
+        (&[4, 2, 9, 11, 9, 9], 0, "another point"),
+        (&[5, 1, 6, 1, 20], 24, "24 before 37"),
+        (&[5, 1, 5, 1, 20], 37, "an older version"),
+        (&[5, 1, 5, 0, 20], 37, "a negative notice"),
+        (&[5, 1, 7, 0, 12], 0, "the highest, on an earlier day"),
+        (&[5, 1, 7, 1, 13], 0, "a positive notice"),
+        (&[5, 1, 5, 1, 13], 37, "the highest has status 2"),
+        (&[5, 1, 7, 1, 13], 25, "the highest itself"),
+        (&[4, 1, 8, 13, 8, 8], 0, ""),
+        (&[5, 1, 7, 1, 13], 37, "37 before 25"),
+        (&[5, 1, 8, 1, 31], 0, ""),
+        (&[5, 2, 9, 1, 31], 0, ""),
+    ];
+    for (call, number, why) in calls {
+        assert_eq!(give(&mut desk, call), number, "{why} {call:?}");
+    }
+    assert_eq!(lent(&mut desk, &[5, 1, 5, 1, 31], other).number(), 2);
+    for (version, given) in [(5, 1), (7, 2), (8, 4)] {
+        assert_eq!(status(&mut desk, 1, version), Answer::Status(given));
+    }
+    assert_eq!(selected(&desk, 1), [Some((7, 2)), Some((8, 4))]);
+    let log = [[13, 1, 1, 7], [31, 1, 2, 8], [31, 2, 2, 9]];
+    assert_eq!(desk.month().expect("an open desk").log, log);
 }
 
 /// "One side of an exchange from the old version".
@@ -262,31 +301,31 @@ fn both_sides_of_an_exchange_are_of_one_version() {
     }
 }
 
-/// "Run 2 falling back to 0 instead of run 1"; and its own may be lower than what run 1 selects.
+/// "Run 2 falling back to 0 instead of run 1".
 #[test]
 fn run_2_selects_its_own_or_what_run_1_selects() {
     let mut desk = activated();
-    for call in [[4, 1, 1, 11, 10, 10], [4, 1, 2, 11, 20, 20]] {
-        assert_eq!(give(&mut desk, &call), 0);
-    }
+    assert_eq!(give(&mut desk, &[4, 1, 1, 11, 10, 10]), 0);
     assert_eq!(selected(&desk, 1), [None, None], "check data");
-    assert_eq!(give(&mut desk, &[5, 1, 2, 1, 30]), 0);
-    assert_eq!(row(&desk, 2, 65), [20, 20]);
-    assert_eq!(selected(&desk, 1), [Some((2, 2)), Some((2, 2))]);
-    assert_eq!(give(&mut desk, &[5, 1, 1, 1, 31]), 0);
-    assert_eq!(selected(&desk, 1), [Some((2, 2)), Some((1, 4))]);
-    assert_eq!(status(&mut desk, 1, 1), Answer::Status(4));
-    assert_eq!(row(&desk, 1, 65), [20, 20]);
+    assert_eq!(give(&mut desk, &[5, 1, 1, 1, 30]), 0);
     assert_eq!(row(&desk, 2, 65), [10, 10]);
-    let log = [[30, 1, 1, 2], [31, 1, 2, 1]];
+    assert_eq!(selected(&desk, 1), [Some((1, 2)), Some((1, 2))]);
+    assert_eq!(give(&mut desk, &[4, 1, 2, 30, 20, 20]), 0);
+    assert_eq!(selected(&desk, 1), [Some((1, 2)), Some((1, 2))]);
+    assert_eq!(give(&mut desk, &[5, 1, 2, 1, 31]), 0);
+    assert_eq!(selected(&desk, 1), [Some((1, 2)), Some((2, 4))]);
+    assert_eq!(status(&mut desk, 1, 2), Answer::Status(4));
+    assert_eq!(row(&desk, 1, 65), [10, 10]);
+    assert_eq!(row(&desk, 2, 65), [20, 20]);
+    let log = [[30, 1, 1, 1], [31, 1, 2, 2]];
     assert_eq!(desk.month().expect("an open desk").log, log);
     assert_eq!(give(&mut desk, &[9, 1, 31]), 0);
-    assert_eq!(status(&mut desk, 1, 2), Answer::Status(3));
-    assert_eq!(status(&mut desk, 1, 1), Answer::Status(4));
-    assert_eq!(selected(&desk, 1), [Some((2, 3)), Some((1, 4))]);
+    assert_eq!(status(&mut desk, 1, 1), Answer::Status(3));
+    assert_eq!(status(&mut desk, 1, 2), Answer::Status(4));
+    assert_eq!(selected(&desk, 1), [Some((1, 3)), Some((2, 4))]);
     assert_eq!(give(&mut desk, &[9, 2, 151]), 0);
-    assert_eq!(status(&mut desk, 1, 1), Answer::Status(5));
-    assert_eq!(selected(&desk, 1), [Some((2, 3)), Some((1, 5))]);
+    assert_eq!(status(&mut desk, 1, 2), Answer::Status(5));
+    assert_eq!(selected(&desk, 1), [Some((1, 3)), Some((2, 5))]);
     assert_eq!(desk.month().expect("an open desk").log, log);
 }
 
@@ -349,21 +388,24 @@ fn checks_go_down_the_table() {
 #[test]
 fn stores_run_out() {
     let short = Lengths {
-        values: 5,
+        values: 7,
         book: 324,
         log: 4,
     };
     let mut desk = Desk::new();
-    let calls: [(&[u64], u64, &str); 10] = [
+    let calls: [(&[u64], u64, &str); 13] = [
         (&OPEN, 0, ""),
         (&[2, 1, 1, 1, 0, 0], 0, ""),
         (&[2, 2, 3, 1, 0, 0], 0, ""),
         (&[4, 1, 1, 2, 5, 5], 0, "one row of the log"),
         (&[4, 2, 1, 10, 5, 5], 17, "a row is due"),
         (&[4, 2, 1, 11, 5, 5], 0, "no row is due"),
-        (&[4, 2, 2, 11, 5, 5], 16, "values of 5 have two rows"),
-        (&[5, 2, 1, 0, 12], 0, "a negative notice, no row is due"),
-        (&[5, 2, 1, 1, 12], 17, "a positive one"),
+        (&[5, 2, 1, 1, 11], 17, "by a notice"),
+        (&[4, 2, 2, 11, 5, 5], 0, "no row is due"),
+        (&[4, 2, 3, 11, 5, 5], 16, "values of 7 have three rows"),
+        (&[5, 2, 1, 1, 12], 37, "37 before 17"),
+        (&[5, 2, 2, 0, 12], 0, "a negative notice, no row is due"),
+        (&[5, 2, 2, 1, 12], 17, "a positive one"),
         (&[5, 1, 1, 0, 12], 25, "25 for negative notices too"),
     ];
     for (call, number, why) in calls {

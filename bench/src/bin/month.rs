@@ -14,7 +14,7 @@
 //! first. Times are processor times of the one thread.
 
 use emorizugu_bench::buffers::{Buffers, Replay};
-use emorizugu_bench::cause::VERSIONS;
+use emorizugu_bench::cause::{LAST_CAUSE, VERSIONS};
 use emorizugu_bench::compare::{compare, Desk};
 use emorizugu_bench::months::{any_calls, growth, month, Month, WINDOWS};
 use emorizugu_bench::{amending, clock, linked, plain, stack};
@@ -86,7 +86,7 @@ fn buffers(month: &Month, word: u64) -> Buffers {
 
 /// Compares the desks on files of any calls, with values, logs and answers that are sometimes too short.
 fn compare_any() {
-    let mut answers = [0; 30];
+    let mut answers = [0; LAST_CAUSE + 1];
     for seed in 1..=COMPARED {
         let month = any_calls(seed);
         let mut lent = buffers(&month, u64::MAX);

@@ -26,6 +26,7 @@ pub fn cause_number(cause: Cause) -> u64
         Cause::VersionPresent => 14,
         Cause::VersionBelow => 15,
         Cause::NoVersion => 24,
+        Cause::NoticeBelow => 37,
         Cause::NotCheckData => 25,
         Cause::NoRow => 16,
         Cause::NoLogRow => 17,

@@ -18,6 +18,7 @@ pub mod Lists
 pub mod Logs
 pub mod Main
 pub mod Moves
+pub mod Newest
 pub mod Notice
 pub mod Points
 pub mod Queries

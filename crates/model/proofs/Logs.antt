@@ -99,7 +99,7 @@ due-row vs ws p d r = go (differ (own 1 p vs) (own 1 p ws)) (differ (own 2 p vs)
     go false true x y e = inr (record { changed = differ-other (own 2 p vs) (own 2 p ws) y; words = ap logWords (same-row r (logRow d p 2 (own 2 p ws)) (sym e)) })
     go false false x y e = no-row (sym e)
 
-numbers-snoc : (l : List LogRow) (r : LogRow) → logNumbers (l ++ (r ∷ [])) ≡ logNumbers l ++ logWords r
+pub numbers-snoc : (l : List LogRow) (r : LogRow) → logNumbers (l ++ (r ∷ [])) ≡ logNumbers l ++ logWords r
 unfolding logNumbers
 numbers-snoc [] r = refl
 numbers-snoc (x ∷ l) r = ap (λ (y : List ℕ). logWords x ++ y) (numbers-snoc l r) ∙ sym (append-assoc (logWords x) (logNumbers l) (logWords r))

@@ -56,7 +56,7 @@ pub data Plain (h : List Told) : Type 0 where
   empty : h ≡ [] → Plain h
   opened : Opened h → Plain h
 
-before-clearing : (o : Opening) → openingOk o ≡ true → o .first .0 < o .clearing .0
+pub before-clearing : (o : Opening) → openingOk o ≡ true → o .first .0 < o .clearing .0
 unfolding openingOk
 before-clearing o e =
     let f = o .first .0 in
@@ -166,6 +166,24 @@ pub onward : (h : List Told) (t : Told) → Plain h → Onward h (plainNext h t)
 onward h t (empty e) = rw e (empty-on (t .lengths) (t .call))
 onward h t (opened O) = opened-on h (t .lengths) (t .call) O
 
+-- what every accepted call keeps holds after every list: a refused one changes nothing
+module _ (I : List Told → Type 0) (keeps : (h : List Told) → Plain h → I h → (n : Lengths) (c : Call) → Passed (rules (viewIn h) n c) → I (telling n c ∷ h)) where
+  kept-on : (h : List Told) (t : Told) → Plain h → I h → I (plainNext h t)
+  unfolding plainNext joined refusal
+  kept-on h t P S = go (refusal (viewIn h) t) refl
+    where
+      go : (v : Ruling) → refusal (viewIn h) t ≡ v → I (joined v h t)
+      go Fine e = keeps h P S (t .lengths) (t .call) (passed (rules (viewIn h) (t .lengths) (t .call)) e)
+      go (Refuse x) e = S
+
+  kept-end : (h m : List Told) → Plain h → I h → I (plainEnd h m)
+  unfolding plainEnd
+  kept-end h [] P S = S
+  kept-end h (t ∷ m) P S = kept-end (plainNext h t) m (onward h t P .plain) (kept-on h t P S)
+
+  pub always-kept : I [] → (l : List Told) → I (plainEnd [] l)
+  always-kept S l = kept-end [] l (empty refl) S
+
 -- every list
 on-end : (h : List Told) (m : List Told) → Plain h → Onward h (plainEnd h m)
 unfolding plainEnd
@@ -179,7 +197,7 @@ on-end h (t ∷ m) P =
       stays = λ z i. E .stays (O .settled z) i ∙ O .stays z i;
     }
 
-end-append : (h l m : List Told) → plainEnd h (l ++ m) ≡ plainEnd (plainEnd h l) m
+pub end-append : (h l m : List Told) → plainEnd h (l ++ m) ≡ plainEnd (plainEnd h l) m
 unfolding plainEnd
 end-append h [] m = refl
 end-append h (t ∷ l) m = end-append (plainNext h t) l m

@@ -32,19 +32,16 @@ use Rattle.state.proofs.Picks.{own-tells, first-status, second-status}
 use Rattle.state.proofs.Settled.{settles-first, settles-second}
 use Rattle.model.specs.Agreement.{Chained, end, fresh}
 use Rattle.model.specs.Call.{Call, opens, activates, deactivates, submits, notices, assigns, shows, asks, settles, Stores, Lengths, Lent, Told, told, telling}
-use Rattle.model.specs.Causes.{rules, refusal}
+use Rattle.model.specs.Causes.{rules}
 use Rattle.model.specs.Laws.{Passed, TellsSettled}
-use Rattle.model.specs.Plain.{openingOf, dayOf, versionsOf, settledOf, viewIn, joined, plainNext, plainEnd, workedOut, after}
-use Rattle.model.specs.declared.Ruling.{Ruling}
-use Rattle.model.specs.declared.Ruling.the-variants.{Fine, Refuse}
+use Rattle.model.specs.Plain.{openingOf, dayOf, versionsOf, settledOf, viewIn, plainEnd, workedOut, after}
 use Rattle.model.proofs.ChangeLaws.{submitted-once}
 use Rattle.model.proofs.Corollaries.{reached}
 use Rattle.model.proofs.Invariant.{opening-open}
 use Rattle.model.proofs.Lists.{all-snoc, all-then}
 use Rattle.model.proofs.Main.{agree}
-use Rattle.model.proofs.Rules.{passed}
 use Rattle.model.proofs.Selections.{own-uncounted}
-use Rattle.model.proofs.Settled.{day-grows, Plain, empty, opened, own-after, onward, same-settled}
+use Rattle.model.proofs.Settled.{day-grows, Plain, empty, opened, own-after, always-kept, same-settled}
 
 -- every version that a run has of its own is of this status
 abbrev Every : (run status : ℕ) → List VersionRecord → Type 0
@@ -192,24 +189,10 @@ module _ (h : List Told) (P : Plain h) (S : Shown h) (n : Lengths) where
               let ne : r ≡ 2 → ⊥ = λ k. false≢true (sym e ∙ eq-eqb r 2 k) in
               omega arith
 
--- every accepted call keeps it, and a refused one changes nothing
-shown-on : (h : List Told) (t : Told) → Plain h → Shown h → Shown (plainNext h t)
-unfolding plainNext joined refusal
-shown-on h t P S = go (refusal (viewIn h) t) refl
-  where
-    go : (v : Ruling) → refusal (viewIn h) t ≡ v → Shown (joined v h t)
-    go Fine e = shown-next h P S (t .lengths) (t .call) (passed (rules (viewIn h) (t .lengths) (t .call)) e)
-    go (Refuse x) e = S
-
-shown-end : (h m : List Told) → Plain h → Shown h → Shown (plainEnd h m)
-unfolding plainEnd
-shown-end h [] P S = S
-shown-end h (t ∷ m) P S = shown-end (plainNext h t) m (onward h t P .plain) (shown-on h t P S)
-
 shown : (l : List Told) → Shown (plainEnd [] l)
 unfolding workedOut all
-shown l =
-    shown-end [] l (empty refl)
+shown =
+    always-kept Shown shown-next
     (record { past = λ z. absurd (false≢true z); order = λ z. absurd (false≢true z); first = λ z. absurd (false≢true z); second = λ z. absurd (false≢true z); firstOpen = λ z. refl; secondOpen = λ z. refl })
 
 -- a version told of a status that none has

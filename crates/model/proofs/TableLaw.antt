@@ -3,10 +3,10 @@ use Prim.Native.Nat.{ℕ, _+_, _*_, _≤_, _<_}
 use mathlib.Core.Path.{_≡_, refl, sym, ap, _∙_}
 use mathlib.Core.Bool.{Bool, true, false, not, _&&_, or-false, true≢false, false≢true}
 use mathlib.Core.Logic.{_⊎_, inl, inr}
-use mathlib.Core.List.{List, [], _∷_, map}
+use mathlib.Core.List.{List, [], _∷_}
 use native.Mathlib.Omega.{arith}
 use borrow.Author.Tests.{not-false, eqb-true, ltb-false}
-use lib.Dec.{leb, ltb, eqb}
+use lib.Dec.{leb, eqb}
 use lib.IntN.{ℤ}
 use lib.ListN.{length}
 use Rattle.quantity.specs.Limits.{versions, dayOk, versionOk, pointOk, deltaOk, groupOk, runOk}
@@ -19,27 +19,22 @@ use Rattle.state.specs.Change.{noticed}
 use Rattle.state.specs.Desk.{isOpen}
 use Rattle.state.specs.Point.{pointAt, isActive, seriesOk}
 use Rattle.state.specs.Selection.{highest, best, versionOf, Highest}
-use Rattle.state.specs.Status.{isCheck}
 use Rattle.state.specs.Valid.{validDesk}
 use Rattle.state.specs.Version.{recordAt, isAt, held}
 use Rattle.state.specs.Within.{Within}
 use Rattle.state.specs.declared.Desk.{Desk}
-use Rattle.state.specs.declared.Held.{Held}
-use Rattle.state.specs.declared.Held.the-variants.{Absent, Has}
 use Rattle.state.specs.declared.Selection.{Selection}
 use Rattle.state.specs.declared.Selection.the-variants.{None, Selected}
-use Rattle.state.specs.declared.Status.{Status}
-use Rattle.state.specs.declared.Status.the-variants.{Check, Settlement, Settled, Correction, CorrectionSettled}
 use Rattle.state.specs.declared.VersionRow.{VersionRow}
 use Rattle.state.proofs.Limits.{means-series, means-valid}
 use Rattle.state.proofs.Picks.{best-highest}
 use Rattle.model.specs.Call.{Call, opens, activates, deactivates, submits, notices, assigns, shows, asks, settles, Stores, Lengths, lengthsOf, Lent, Told, told, causeNumber}
-use Rattle.model.specs.Causes.{Rule, terms, takes, rules, otherLengths, firstOf, opensOk, openingBy, submitOk, noticeOk, logFull, isAbsent, notCheck, refusal}
+use Rattle.model.specs.Causes.{Rule, terms, takes, rules, otherLengths, firstOf, opensOk, openingBy, submitOk, noticeOk, logFull, isAbsent, isBelow, notCheck, refusal}
 use Rattle.model.specs.Laws.{Passed, Decides, here, below}
 use Rattle.model.specs.Log.{due}
 use Rattle.model.specs.Plain.{versionsOf, viewIn, granted, answered, plainReply}
 use Rattle.model.specs.Step.{lines, step}
-use Rattle.model.specs.Table.{Table, end, line, numbersIn, order, among, FirstIs, NoneIs, ByTable, NoticeDue, NoneLeft, table, deskTable}
+use Rattle.model.specs.Table.{Table, end, line, numbersIn, order, among, FirstIs, NoneIs, ByTable, NoneLeft, table, deskTable}
 use Rattle.model.specs.View.{View, viewOf}
 use Rattle.model.specs.declared.Answer.{Answer}
 use Rattle.model.specs.declared.Answer.the-variants.{Refused}
@@ -49,7 +44,7 @@ use Rattle.model.specs.declared.Ruling.{Ruling}
 use Rattle.model.specs.declared.Ruling.the-variants.{Fine, Refuse}
 use Rattle.model.proofs.CauseLaws.{status-found, step-accepts, step-refused, step-refuses}
 use Rattle.model.proofs.Rules.{not-refused, passed, passed-fine, past, first-decides, decides-first}
-use Rattle.model.proofs.TableDue.{means-submit-due, means-notice-due}
+use Rattle.model.proofs.TableDue.{check-held, means-submit-due, means-notice-due}
 use Rattle.model.proofs.TableWords.{means-unopened, means-allowed, means-stores, means-book, means-submit, means-active, means-early, means-same-series, means-has, means-present, means-absent, means-status, means-below, means-deadline, means-flag, means-second}
 
 -- ---- tests and a table that say the same
@@ -107,8 +102,8 @@ module _ (v : View) (n : Lengths) where
   unopened = means-unopened (v .frame .opening)
 
   -- where 3, 14 and 15 do not hold, the version is above all of its point
-  highest-below : (p x d : ℕ) (es : List ℤ) → not (submitOk p x d (v .frame .opening .quarters) es) ≡ false → not (isAbsent (held p x (v .versions))) ≡ false
-      → ltb x (highest p (v .versions)) ≡ false → highest p (v .versions) < x
+  pub highest-below : (p x d : ℕ) (es : List ℤ) → not (submitOk p x d (v .frame .opening .quarters) es) ≡ false → not (isAbsent (held p x (v .versions))) ≡ false
+      → isBelow p x (v .versions) ≡ false → highest p (v .versions) < x
   highest-below p x d es fields free up = go (best (isAt p) (v .versions)) (best-highest (isAt p) (v .versions)) (ltb-false x (highest p (v .versions)) up)
     where
       low : 1 ≤ x
@@ -121,20 +116,12 @@ module _ (v : View) (n : Lengths) where
           let other : r .version .0 ≡ x → ⊥ = λ e. means-present (v .versions) p x .fails free (r .at, (h .within, (eqb-true (recordAt (v .versions) (r .at) .point .0) p (h .passes), number ∙ e))) in
           omega (arith, l, other)
 
-  -- where 24 and 25 do not hold, the version is check data
-  noticed-due : (p x y d : ℕ) (h : Held) → held p x (v .versions) ≡ h → notCheck h ≡ false
-      → Means (logFull (v .frame .used) (v .frame .opening .log) (due (v .versions) (noticed (v .frame .opening .clearing .0) p x y d (v .versions)) p d)) (NoticeDue (v .versions) (v .frame .opening .clearing .0) p x y d × NoneLeft (v .frame))
-  unfolding notCheck
-  noticed-due p x y d Absent e check = absurd (true≢false check)
-  noticed-due p x y d (Has i r) e check =
-      means-notice-due (v .versions) (v .frame .opening .clearing .0) p x d i r e (check-status (r .status) (not-false (isCheck (r .status)) check)) y (v .frame .used) (v .frame .opening .log)
-    where
-      check-status : (s : Status) → isCheck s ≡ true → s ≡ Check
-      check-status Check z = refl
-      check-status Settlement z = absurd (false≢true z)
-      check-status Settled z = absurd (false≢true z)
-      check-status Correction z = absurd (false≢true z)
-      check-status CorrectionSettled z = absurd (false≢true z)
+  -- where 37 and 25 do not hold, the version is its point's highest and check data
+  noticed-due : (p x y d : ℕ) → isBelow p x (v .versions) ≡ false → notCheck (held p x (v .versions)) ≡ false
+      → Means (logFull (v .frame .used) (v .frame .opening .log) (due (v .versions) (noticed (v .frame .opening .clearing .0) p x y d (v .versions)) p d)) ((y ≡ 1) × NoneLeft (v .frame))
+  noticed-due p x y d top check =
+      let h = check-held (held p x (v .versions)) check in
+      means-notice-due (v .versions) (v .frame .opening .clearing .0) p x d (h .0) (h .1 .0) (h .1 .1 .0) (h .1 .1 .1) (ltb-false x (highest p (v .versions)) top) y (v .frame .used) (v .frame .opening .log)
 
   pub says : (c : Call) → Says (rules v n c) (table v n c)
   says (opens q f c k gs) =
@@ -178,9 +165,10 @@ module _ (v : View) (n : Lengths) where
       said (means-lt (v .frame .opening .correction .0) d) (λ _.
       said (means-not (isActive (pointAt (v .points) p)) (means-active (v .points) p)) (λ _.
       said (means-absent (v .versions) p x) (λ there.
+      said (means-below (v .versions) p x) (λ top.
       said (means-status (v .versions) p x there) (λ check.
-      said (noticed-due p x y d (held p x (v .versions)) refl check) (λ _.
-      tt)))))))))
+      said (noticed-due p x y d top check) (λ _.
+      tt))))))))))
   says (assigns a g d) =
       said unopened (λ _.
       said (means-book n (v .frame .opening)) (λ _.

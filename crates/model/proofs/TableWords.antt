@@ -16,7 +16,7 @@ use Rattle.quantity.proofs.Meanings.{means-le, means-eq, means-not, means-so, m
 use Rattle.quantity.proofs.Ranges.{means-day, means-version, means-point, means-group, means-energy}
 use Rattle.state.specs.Desk.{isOpen, flagOf}
 use Rattle.state.specs.Point.{freePoint, pointAt, isActive, sinceOf, isSeries, hasSeries}
-use Rattle.state.specs.Selection.{highest, best, versionOf, Highest}
+use Rattle.state.specs.Selection.{best, versionOf, Highest}
 use Rattle.state.specs.Status.{statusNumber, isCheck}
 use Rattle.state.specs.Valid.{openingOk}
 use Rattle.state.specs.Version.{emptyVersion, recordAt, isAt, isVersion, held, HeldIn}
@@ -34,8 +34,8 @@ use Rattle.state.specs.declared.VersionRow.{VersionRow}
 use Rattle.state.proofs.Limits.{means-opening}
 use Rattle.state.proofs.Picks.{best-highest, held-right}
 use Rattle.model.specs.Call.{Lengths, everyStore, theBook}
-use Rattle.model.specs.Causes.{openingBy, opensOk, otherLengths, submitOk, isAbsent, notCheck, deadline}
-use Rattle.model.specs.Table.{ActiveAt, SameSeries, FoundAt, Allowed, SubmitIn}
+use Rattle.model.specs.Causes.{openingBy, opensOk, otherLengths, submitOk, isAbsent, isBelow, notCheck, deadline}
+use Rattle.model.specs.Table.{ActiveAt, SameSeries, FoundAt, Present, BelowHighest, Allowed, SubmitIn}
 
 -- ---- the opening
 
@@ -166,15 +166,15 @@ module _ (vs : List VersionRecord) where
   named : (p x : ℕ) (r : VersionRecord) → Means (isVersion p x r) ((r .point .0 ≡ p) × (r .version .0 ≡ x))
   named p x r = means-and (isAt p r) _ (means-eq (r .point .0) p) (λ _. means-eq (r .version .0) x)
 
-  pub means-present : (p x : ℕ) → Means (not (isAbsent (held p x vs))) (Among emptyVersion (λ (r : VersionRecord). (r .point .0 ≡ p) × (r .version .0 ≡ x)) vs)
+  pub means-present : (p x : ℕ) → Means (not (isAbsent (held p x vs))) (Present vs p x)
   unfolding isAbsent
   means-present p x = go (held p x vs) (held-right p x vs)
     where
-      go : (h : Held) → HeldIn p x vs (length vs) h → Means (not (isAbsent h)) (Among emptyVersion (λ (r : VersionRecord). (r .point .0 ≡ p) × (r .version .0 ≡ x)) vs)
+      go : (h : Held) → HeldIn p x vs (length vs) h → Means (not (isAbsent h)) (Present vs p x)
       go Absent h = means-never (λ q. named p x (recordAt vs (q .0)) .fails (h (q .0) (q .1 .0)) (q .1 .1))
       go (Has i v) h = record { holds = λ _. (i, (h .within, named p x (recordAt vs i) .holds (h .found))); fails = λ t _. true≢false t }
 
-  pub means-absent : (p x : ℕ) → Means (isAbsent (held p x vs)) (Among emptyVersion (λ (r : VersionRecord). (r .point .0 ≡ p) × (r .version .0 ≡ x)) vs → ⊥)
+  pub means-absent : (p x : ℕ) → Means (isAbsent (held p x vs)) (Present vs p x → ⊥)
   means-absent p x = go (isAbsent (held p x vs)) (means-present p x)
     where
       go : {P : Type 0} (t : Bool) → Means (not t) P → Means t (P → ⊥)
@@ -212,10 +212,10 @@ module _ (vs : List VersionRecord) where
               let one : q .0 ≡ i = omega (arith, early, late) in
               ap (recordAt vs) one
 
-  pub means-below : (p x : ℕ) → Means (ltb x (highest p vs)) (Among emptyVersion (λ (r : VersionRecord). (r .point .0 ≡ p) × (x < r .version .0)) vs)
+  pub means-below : (p x : ℕ) → Means (isBelow p x vs) (BelowHighest vs p x)
   means-below p x = go (best (isAt p) vs) (best-highest (isAt p) vs)
     where
-      go : (s : Selection) → Highest (isAt p) vs (length vs) s → Means (ltb x (versionOf s)) (Among emptyVersion (λ (r : VersionRecord). (r .point .0 ≡ p) × (x < r .version .0)) vs)
+      go : (s : Selection) → Highest (isAt p) vs (length vs) s → Means (ltb x (versionOf s)) (BelowHighest vs p x)
       go None h =
           record {
             holds = λ e. absurd (omega (arith, ltb-true x 0 e));

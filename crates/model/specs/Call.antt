@@ -6,7 +6,7 @@ use lib.IntN.{ℤ}
 use lib.ListN.{length}
 use Rattle.state.specs.Status.{statusNumber}
 use Rattle.model.specs.declared.Cause.{Cause}
-use Rattle.model.specs.declared.Cause.the-variants.{NotOpen, WrongLength, BadField, OpenAgain, BadOpening, PastDay, AfterCorrection, AfterClearing, PointActive, SameSeries, NotActive, HasVersion, TooEarly, VersionPresent, VersionBelow, NoVersion, NotCheckData, NoRow, NoLogRow, SettleTooEarly, AlreadySettled, FirstRunOpen}
+use Rattle.model.specs.declared.Cause.the-variants.{NotOpen, WrongLength, BadField, OpenAgain, BadOpening, PastDay, AfterCorrection, AfterClearing, PointActive, SameSeries, NotActive, HasVersion, TooEarly, VersionPresent, VersionBelow, NoVersion, NoticeBelow, NotCheckData, NoRow, NoLogRow, SettleTooEarly, AlreadySettled, FirstRunOpen}
 use Rattle.model.specs.declared.Answer.{Answer}
 use Rattle.model.specs.declared.Answer.the-variants.{Accepted, HasStatus, Refused}
 
@@ -92,6 +92,7 @@ causeNumber TooEarly = 13
 causeNumber VersionPresent = 14
 causeNumber VersionBelow = 15
 causeNumber NoVersion = 24
+causeNumber NoticeBelow = 37
 causeNumber NotCheckData = 25
 causeNumber NoRow = 16
 causeNumber NoLogRow = 17

@@ -17,12 +17,13 @@ use Rattle.state.specs.Version.{newVersion, isAt, held}
 use Rattle.state.specs.declared.Held.{Held}
 use Rattle.state.specs.declared.Held.the-variants.{Absent, Has}
 use Rattle.state.specs.declared.Opening.{Opening}
+use Rattle.state.specs.declared.VersionRecord.{VersionRecord}
 use Rattle.model.specs.Call.{Call, opens, activates, deactivates, submits, notices, assigns, shows, asks, settles, Lengths, Taken, everyStore, theBook, noStore, Told}
 use Rattle.model.specs.Log.{due}
 use Rattle.model.specs.View.{View}
 use Rattle.model.specs.declared.Asks.{Asks}
 use Rattle.model.specs.declared.Cause.{Cause}
-use Rattle.model.specs.declared.Cause.the-variants.{NotOpen, WrongLength, BadField, OpenAgain, BadOpening, PastDay, AfterCorrection, AfterClearing, PointActive, SameSeries, NotActive, HasVersion, TooEarly, VersionPresent, VersionBelow, NoVersion, NotCheckData, NoRow, NoLogRow, SettleTooEarly, AlreadySettled, FirstRunOpen}
+use Rattle.model.specs.declared.Cause.the-variants.{NotOpen, WrongLength, BadField, OpenAgain, BadOpening, PastDay, AfterCorrection, AfterClearing, PointActive, SameSeries, NotActive, HasVersion, TooEarly, VersionPresent, VersionBelow, NoVersion, NoticeBelow, NotCheckData, NoRow, NoLogRow, SettleTooEarly, AlreadySettled, FirstRunOpen}
 use Rattle.model.specs.declared.Due.{Due}
 use Rattle.model.specs.declared.Due.the-variants.{Nothing, Row}
 use Rattle.model.specs.declared.Ruling.{Ruling}
@@ -88,6 +89,10 @@ noticeOk p x y d = pointOk p && (versionOk x && (leb y 1 && dayOk d))
 unfoldable pub isAbsent : Held → Bool
 isAbsent Absent = true
 isAbsent (Has i v) = false
+
+-- "version below the point's highest", of whatever status: 15 of a submission, 37 of a notice
+abbrev pub isBelow : (point version : ℕ) → List VersionRecord → Bool
+isBelow p x vs = ltb x (highest p vs)
 
 -- "notice: status not 1"
 unfoldable pub notCheck : Held → Bool
@@ -196,7 +201,7 @@ terms (submits p x d es) =
           (rule (not (isActive (pointAt (v .points) p))) NotActive
           (rule (ltb d (sinceOf (pointAt (v .points) p) + 2)) TooEarly
           (rule (not (isAbsent (held p x (v .versions)))) VersionPresent
-          (rule (ltb x (highest p (v .versions))) VersionBelow
+          (rule (isBelow p x (v .versions)) VersionBelow
           (rule (leb versions (length (v .versions)) || ltb (v .frame .opening .values) ((length (v .versions) + 1) * v .frame .opening .quarters)) NoRow
           (rule
           (logFull (v .frame .used) (v .frame .opening .log)
@@ -218,11 +223,12 @@ terms (notices p x y d) =
           (rule (ltb (v .frame .opening .correction .0) d) AfterCorrection
           (rule (not (isActive (pointAt (v .points) p))) NotActive
           (rule (isAbsent (held p x (v .versions))) NoVersion
+          (rule (isBelow p x (v .versions)) NoticeBelow
           (rule (notCheck (held p x (v .versions))) NotCheckData
           (rule
           (logFull (v .frame .used) (v .frame .opening .log)
           (due (v .versions) (noticed (v .frame .opening .clearing .0) p x y d (v .versions)) p d)) NoLogRow
-          []))))))));
+          [])))))))));
     }
 terms (assigns a g d) =
     record {

@@ -2,7 +2,7 @@
 use Prim.Native.Nat.{ℕ, _+_, _-_, _≤_, _<_}
 use mathlib.Core.Path.{_≡_}
 use mathlib.Core.Bool.{true, false, cond}
-use mathlib.Core.List.{List, [], _∷_}
+use mathlib.Core.List.{List, [], _∷_, _++_}
 use mathlib.Core.Logic.{_⊎_}
 use lib.Dec.{eqb}
 use lib.IntN.{ℤ, pos, _+ℤ_, _-ℤ_}
@@ -55,6 +55,26 @@ pub record OwesOne (vs ws : List VersionRecord) : Type 0 where
   pub point : ℕ
   pub elsewhere : (r i : ℕ) → (i ≡ point → ⊥) → SameVersion (own r i ws) (own r i vs)
   pub one : SameVersion (own 1 point ws) (own 1 point vs) ⊎ SameVersion (own 2 point ws) (own 2 point vs)
+
+-- "submit: version present", "version below the point's highest": a point's versions rise in the order of their submission
+abbrev pub Rising : List VersionRecord → Type 0
+Rising vs =
+    (i j : ℕ) → i < j → j < length vs → recordAt vs i .point .0 ≡ recordAt vs j .point .0 → recordAt vs i .version .0 < recordAt vs j .version .0
+
+-- run 2's own, where there is one, stands above what run 1 selects
+abbrev pub OwnAbove : List VersionRecord → Type 0
+OwnAbove vs = (p : ℕ) (r s : VersionRow) → selected 1 p vs ≡ Selected r → own 2 p vs ≡ Selected s → r .version .0 < s .version .0
+
+-- a version becomes a run's own: the one before it was lower, and the log gains a row, "day, point, run, new version"
+pub record TakenUp (run point version day : ℕ) (vs ws : List VersionRecord) (log after : List ℕ) : Type 0 where
+  pub lower : versionOf (own run point vs) < version
+  pub chosen : versionOf (own run point ws) ≡ version
+  pub row : after ≡ log ++ (day ∷ point ∷ run ∷ version ∷ [])
+
+-- "a notice counts only for the highest version that a point has": so an accepted positive one always counts, up to C in run 1, after it in run 2
+pub record NoticeCounts (clearing point version day : ℕ) (vs ws : List VersionRecord) (log after : List ℕ) : Type 0 where
+  pub early : day ≤ clearing → TakenUp 1 point version day vs ws log after
+  pub late : clearing < day → TakenUp 2 point version day vs ws log after
 
 -- what a status tells of its run: "each selected version gets 3", and run 2's own 5, where the run is settled; before that 2 and 4. Where run 2 has
 -- none of its own it tells run 1's

@@ -1,5 +1,5 @@
--- Document 01's table of causes, for each call its lines from top to bottom: the number, and in the paper's words when it holds. What both desks
--- share, the tests of `terms`, is judged by it.
+-- The table of causes of documents 01 and 02, for each call its lines from top to bottom: the number, and in the papers' words when it holds. What
+-- both desks share, the tests of `terms`, is judged by it.
 use Prim.Native.Nat.{ℕ, _+_, _*_, _%_, _≤_, _<_}
 use mathlib.Core.Path.{_≡_}
 use mathlib.Core.Bool.{true, false, cond}
@@ -35,9 +35,9 @@ abbrev pub numbersIn : Table → List ℕ
 numbersIn end = []
 numbersIn (line m P t) = m ∷ numbersIn t
 
--- "Checks go down the table": all its numbers, from top to bottom
+-- "Checks go down the table": all its numbers, from top to bottom; document 02: "37, .. checked after 24 and before 25"
 abbrev pub order : List ℕ
-order = 1 ∷ 2 ∷ 3 ∷ 6 ∷ 4 ∷ 5 ∷ 11 ∷ 26 ∷ 21 ∷ 22 ∷ 12 ∷ 23 ∷ 13 ∷ 14 ∷ 15 ∷ 24 ∷ 25 ∷ 16 ∷ 17 ∷ 27 ∷ 28 ∷ 29 ∷ []
+order = 1 ∷ 2 ∷ 3 ∷ 6 ∷ 4 ∷ 5 ∷ 11 ∷ 26 ∷ 21 ∷ 22 ∷ 12 ∷ 23 ∷ 13 ∷ 14 ∷ 15 ∷ 24 ∷ 37 ∷ 25 ∷ 16 ∷ 17 ∷ 27 ∷ 28 ∷ 29 ∷ []
 
 -- those of a list that stand in another, in the order of the first
 abbrev pub among : (l other : List ℕ) → List ℕ
@@ -85,15 +85,13 @@ pub record FoundAt (vs : List VersionRecord) (point version at : ℕ) : Type 0 w
   pub numbered : recordAt vs at .version .0 ≡ version
   pub first : (j : ℕ) → j < at → recordAt vs j .point .0 ≡ point → recordAt vs j .version .0 ≡ version → ⊥
 
--- "Run 1 selects for a point the highest version of status 2 or 3. Run 2 selects the highest of status 4 or 5 (its own)": no version of the point
--- with one of these statuses is above `version`
-abbrev pub NoneAbove : (vs : List VersionRecord) (point version status other : ℕ) → Type 0
-NoneAbove vs p x s t =
-    Each emptyVersion (λ (v : VersionRecord). v .point .0 ≡ p → (statusNumber (v .status) ≡ s) ⊎ (statusNumber (v .status) ≡ t) → v .version .0 ≤ x) vs
+-- "version present"
+abbrev pub Present : (vs : List VersionRecord) (point version : ℕ) → Type 0
+Present vs p x = Among emptyVersion (λ (v : VersionRecord). (v .point .0 ≡ p) × (v .version .0 ≡ x)) vs
 
--- "Positive turns status 1 into 2 if day ≤ C, else 4.": run 1's selection or run 2's own changes, so that a log row is due
-abbrev pub NoticeDue : (vs : List VersionRecord) (clearing point version verdict day : ℕ) → Type 0
-NoticeDue vs c p x y d = (y ≡ 1) × (((d ≤ c) × NoneAbove vs p x 2 3) ⊎ ((c < d) × NoneAbove vs p x 4 5))
+-- "version below the point's highest": the point has one above it, of whatever status
+abbrev pub BelowHighest : (vs : List VersionRecord) (point version : ℕ) → Type 0
+BelowHighest vs p x = Among emptyVersion (λ (v : VersionRecord). (v .point .0 ≡ p) × (x < v .version .0)) vs
 
 -- "none is left": a row has four numbers
 abbrev pub NoneLeft : Frame → Type 0
@@ -163,8 +161,8 @@ module _ (v : View) (n : Lengths) where
       (line 11 (v .frame .opening .correction .0 < d)
       (line 12 (ActiveAt (v .points) p → ⊥)
       (line 13 ((a : ActiveAt (v .points) p) × (d < a .since + 2))
-      (line 14 (Among emptyVersion (λ (r : VersionRecord). (r .point .0 ≡ p) × (r .version .0 ≡ x)) (v .versions))
-      (line 15 (Among emptyVersion (λ (r : VersionRecord). (r .point .0 ≡ p) × (x < r .version .0)) (v .versions))
+      (line 14 (Present (v .versions) p x)
+      (line 15 (BelowHighest (v .versions) p x)
       (line 16 ((512 ≤ length (v .versions)) ⊎ (v .frame .opening .values < (length (v .versions) + 1) * v .frame .opening .quarters))
       (line 17 ((d ≤ v .frame .opening .first .0) × NoneLeft (v .frame))
       end))))))))))
@@ -175,10 +173,11 @@ module _ (v : View) (n : Lengths) where
       (line 5 (d < v .frame .day .0)
       (line 11 (v .frame .opening .correction .0 < d)
       (line 12 (ActiveAt (v .points) p → ⊥)
-      (line 24 (Among emptyVersion (λ (r : VersionRecord). (r .point .0 ≡ p) × (r .version .0 ≡ x)) (v .versions) → ⊥)
+      (line 24 (Present (v .versions) p x → ⊥)
+      (line 37 (BelowHighest (v .versions) p x)
       (line 25 ((i : ℕ) × (FoundAt (v .versions) p x i × (statusNumber (recordAt (v .versions) i .status) ≡ 1 → ⊥)))
-      (line 17 (NoticeDue (v .versions) (v .frame .opening .clearing .0) p x y d × NoneLeft (v .frame))
-      end))))))))
+      (line 17 ((y ≡ 1) × NoneLeft (v .frame))
+      end)))))))))
   table (assigns a g d) =
       line 1 Unopened
       (line 2 OtherBook
@@ -195,7 +194,7 @@ module _ (v : View) (n : Lengths) where
       line 1 Unopened
       (line 3 (Between 1 256 p × Between 1 99999999999999 x → ⊥)
       (line 12 (ActiveAt (v .points) p → ⊥)
-      (line 24 (Among emptyVersion (λ (r : VersionRecord). (r .point .0 ≡ p) × (r .version .0 ≡ x)) (v .versions) → ⊥)
+      (line 24 (Present (v .versions) p x → ⊥)
       end)))
   table (settles r d) =
       line 1 Unopened

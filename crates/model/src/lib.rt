@@ -40,6 +40,8 @@ pub enum Cause {
     VersionBelow,
     // 24
     NoVersion,
+    // 37
+    NoticeBelow,
     // 25
     NotCheckData,
     // 16

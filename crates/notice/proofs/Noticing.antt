@@ -1,6 +1,6 @@
 -- Laws of a notice: what it makes of the selections, and what one that the table does not refuse has passed. Assumes nothing.
 use mathlib.Core.Path.{_≡_, refl, sym, ap, _∙_}
-use mathlib.Core.Bool.{Bool, true, false, cond, not, _&&_, and-false, true≢false}
+use mathlib.Core.Bool.{Bool, true, false, cond, _&&_, and-false, true≢false}
 use mathlib.Core.List.{List}
 use Prim.Native.Nat.{ℕ, _*_, _≤_}
 use native.Mathlib.Decide.{ℕ-discrete}
@@ -22,11 +22,10 @@ use Rattle.state.specs.declared.Desk.{Desk}
 use Rattle.state.specs.declared.Held.{Held}
 use Rattle.state.specs.declared.Held.the-variants.{Absent, Has}
 use Rattle.state.specs.declared.PointState.{PointState}
-use Rattle.state.specs.declared.Status.{Status}
-use Rattle.state.specs.declared.Status.the-variants.{Check, Settlement, Settled, Correction, CorrectionSettled}
+use Rattle.state.specs.declared.Status.the-variants.{Check}
 use Rattle.state.specs.declared.VersionRecord.{VersionRecord}
 use Rattle.state.proofs.Bounds.{state-in, rows-fit}
-use Rattle.state.proofs.Kept.{notice-own, notice-negative}
+use Rattle.state.proofs.Kept.{is-check, notice-own, notice-negative}
 use Rattle.state.proofs.Picks.{held-right}
 use Rattle.state.specs.Effect.{changedBy}
 use Rattle.state.specs.declared.Effect.{Effect}
@@ -50,13 +49,6 @@ use Rattle.checks.specs.Survey.{Surveyed}
 use Rattle.checks.specs.declared.Survey.{Survey}
 use Rattle.checks.proofs.Lengths.{lengths}
 use Rattle.notice.specs.Notice.{noticedIn, ownBy, turnBy, noticedRecord, CheckAt, NoticeFits, NoticeEffect}
-
-is-check : (s : Status) → isCheck s ≡ true → s ≡ Check
-is-check Check e = refl
-is-check Settlement e = absurd (true≢false (sym e))
-is-check Settled e = absurd (true≢false (sym e))
-is-check Correction e = absurd (true≢false (sym e))
-is-check CorrectionSettled e = absurd (true≢false (sym e))
 
 -- a notice at a point makes of its selection in a run what it makes of the selection found
 own-noticed : (run c p x y day : ℕ) (vs : List VersionRecord) → own run p (noticed c p x y day vs) ≡ ownBy run y (confirmedStatus c day) (held p x vs) (own run p vs)

@@ -1,4 +1,5 @@
-// Notice: a positive one turns check data into settlement data, or after C into correction settlement data; a negative one changes no status.
+// Notice, on its point's highest version: a positive one turns check data into settlement data, or after C into correction settlement data; a negative
+// one changes no status.
 use crate::conditions::notice_ok;
 use amend::log::due_by;
 use amend::turns::follow;
@@ -40,6 +41,7 @@ use state::changes::restated;
 use state::effects::unchanged;
 use state::selections::raised_earlier;
 use state::selections::row_at;
+use state::selections::version_of;
 use state::statuses::confirmed_status;
 use state::statuses::counts_in;
 use state::statuses::is_check;
@@ -56,7 +58,8 @@ ghost use Rattle.checks.specs.Look.{Looked};
 ghost use Rattle.checks.specs.Stepped.{Stepped};
 ghost use Rattle.notice.specs.Notice.{noticedIn, ownBy, turnBy, noticedRecord, NoticeFits, NoticeEffect};
 
-// What a notice on the version found makes of a run's own selection; positive, it gives check data the status `confirmed`.
+// What a notice on the version found makes of a run's own selection; positive, it gives check data the status `confirmed`. A higher one that counts
+// stays; the table refuses such a notice (37).
 fn own_after(run: u64, old: Selection, held: Held, verdict: u64, confirmed: Status) -> Selection
     ensures { λ r. ⌜ r ≡ ownBy run verdict confirmed held old ⌝ }
 {
@@ -114,6 +117,7 @@ fn notice_ruling(
     let here = l.here;
     let found = l.survey;
     let held = found.held;
+    let highest = found.highest;
     let k0 = or_if(Ruling::Fine, !is_open(o), Cause::NotOpen);
     let k1 = or_if(k0, other_lengths(o, n), Cause::WrongLength);
     let k2 = or_if(
@@ -125,8 +129,10 @@ fn notice_ruling(
     let k4 = or_if(k3, o.correction.0 < day.0, Cause::AfterCorrection);
     let k5 = or_if(k4, !is_active(here), Cause::NotActive);
     let k6 = or_if(k5, absent(held), Cause::NoVersion);
-    let k7 = or_if(k6, not_check(held), Cause::NotCheckData);
-    or_if(k7, log_full(f.used, o.log, due), Cause::NoLogRow)
+    let above = version_of(highest);
+    let k7 = or_if(k6, version.0 < above.0, Cause::NoticeBelow);
+    let k8 = or_if(k7, not_check(held), Cause::NotCheckData);
+    or_if(k8, log_full(f.used, o.log, due), Cause::NoLogRow)
 }
 
 // The record of the version found, as the notice leaves it.

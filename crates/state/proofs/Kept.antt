@@ -31,6 +31,14 @@ use Rattle.state.specs.declared.VersionRow.{VersionRow}
 
 -- ---- a notice
 
+-- what passes the test of check data has that status
+pub is-check : (s : Status) → isCheck s ≡ true → s ≡ Check
+is-check Check e = refl
+is-check Settlement e = absurd (false≢true e)
+is-check Settled e = absurd (false≢true e)
+is-check Correction e = absurd (false≢true e)
+is-check CorrectionSettled e = absurd (false≢true e)
+
 -- "Negative changes no status."
 pub notice-negative : (c p x y d : ℕ) (vs : List VersionRecord) → (y ≡ 1 → ⊥) → noticed c p x y d vs ≡ vs
 notice-negative c p x y d vs ne = go (held p x vs)

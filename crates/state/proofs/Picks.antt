@@ -15,7 +15,7 @@ use Rattle.quantity.proofs.Tests.{by-test, and-left, and-right}
 use Rattle.quantity.specs.Lists.{any}
 use Rattle.state.proofs.Lists.{walk-last, walk-set, walk-keeps}
 use Rattle.state.specs.Change.{submitted}
-use Rattle.state.specs.Selection.{rowAt, raise, raiseEarlier, raiseIf, best, isSelected, versionOf, isCounted, own, orElse, withStatus, SameVersion, inRun, selected, IsHighest, Highest, Tells}
+use Rattle.state.specs.Selection.{rowAt, raise, raiseEarlier, raiseIf, best, isSelected, versionOf, highest, isCounted, own, orElse, withStatus, SameVersion, inRun, selected, IsHighest, Highest, Tells}
 use Rattle.state.specs.Status.{statusNumber, counts}
 use Rattle.state.specs.Walk.{walk}
 use Rattle.state.specs.Version.{emptyVersion, recordAt, isAt, isVersion, orHeld, held, HeldIn}
@@ -258,6 +258,17 @@ counts-second CorrectionSettled = refl
 -- the selected version has a status that counts at the point, and no higher one of the point counts
 pub own-highest : (run p : ℕ) (vs : List VersionRecord) → Highest (isCounted run p) vs (length vs) (own run p vs)
 own-highest run p vs = best-highest (isCounted run p) vs
+
+-- and it is no higher than the point's highest
+pub own-most : (run p : ℕ) (vs : List VersionRecord) → versionOf (own run p vs) ≤ highest p vs
+own-most run p vs = go (own run p vs) (best (isAt p) vs) (own-highest run p vs) (best-highest (isAt p) vs)
+  where
+    go : (s t : Selection) → Highest (isCounted run p) vs (length vs) s → Highest (isAt p) vs (length vs) t → versionOf s ≤ versionOf t
+    go None t h k = omega arith
+    go (Selected r) None h k =
+        absurd (false≢true (sym (k (r .at) (h .within)) ∙ and-left (isAt p (recordAt vs (r .at))) _ (h .passes)))
+    go (Selected r) (Selected q) h k =
+        omega (arith, k .most (r .at) (h .within) (and-left (isAt p (recordAt vs (r .at))) _ (h .passes)), ap (λ (z : VersionRow). z .version .0) (h .here))
 
 -- "The lookup of a point's selected version for a run gives its status along with it"
 pub own-tells : (run p : ℕ) (vs : List VersionRecord) (r : VersionRow) → own run p vs ≡ Selected r → Tells p vs r
