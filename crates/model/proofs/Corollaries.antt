@@ -21,7 +21,7 @@ use Rattle.model.specs.Call.{Call, opens, activates, deactivates, submit
 use Rattle.model.specs.Causes.{Rule, openingBy}
 use Rattle.model.specs.Demands.{Alike, Blind}
 use Rattle.model.specs.Log.{due}
-use Rattle.model.specs.Plain.{plainEnd, figure, pointsOf, groupsOf, energiesOf, workedOut, after}
+use Rattle.model.specs.Plain.{plainEnd, figure, pointsOf, groupsOf, workedOut, after}
 use Rattle.model.specs.Step.{lines, statusAnswer, versionBy, granting, refusalBy, decided, step}
 use Rattle.model.specs.declared.Answer.{Answer}
 use Rattle.model.specs.declared.Answer.the-variants.{Refused}

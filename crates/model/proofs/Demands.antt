@@ -11,7 +11,7 @@ use Rattle.model.specs.Agreement.{Running, Chained, next, replies, end, 
 use Rattle.model.specs.Call.{Call, opens, activates, deactivates, submits, notices, assigns, shows, asks, settles, Stores, Lent, told}
 use Rattle.model.specs.Demands.{Granted, Untouched, DemandOne, DemandTwo}
 use Rattle.model.specs.Plain.{plainReplies, plainEnd}
-use Rattle.model.specs.Step.{lines, statusAnswer, granting, refusalBy, decided, step}
+use Rattle.model.specs.Step.{statusAnswer, granting, refusalBy, decided, step}
 use Rattle.model.specs.declared.Answer.the-variants.{Refused}
 use Rattle.model.specs.declared.Cause.{Cause}
 use Rattle.model.specs.declared.Ruling.{Ruling}

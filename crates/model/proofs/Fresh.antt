@@ -19,16 +19,13 @@ use Rattle.state.specs.declared.Desk.{Desk}
 use Rattle.model.specs.Agreement.{Running, next, fresh, Agree}
 use Rattle.model.specs.Call.{Call, opens, activates, deactivates, submits, notices, assigns, shows, asks, settles, Stores, lengthsOf, Lent, Told, told, Reply}
 use Rattle.model.specs.Causes.{orIf, firstOf, openingBy, opensOk, refusal}
-use Rattle.model.specs.Log.{due, addRow, logNumbers}
+use Rattle.model.specs.Log.{logNumbers}
 use Rattle.model.specs.Plain.{viewIn, answered, joined, plainReply, plainNext, workedOut, after}
 use Rattle.model.specs.Step.{withBook, refusalBy, decided, step, replyOf}
-use Rattle.model.specs.declared.Due.{Due}
-use Rattle.model.specs.declared.Due.the-variants.{Nothing}
 use Rattle.model.proofs.Figures.{figure-none}
 use Rattle.model.proofs.Invariant.{Holds, Granted, holds-open, book-is}
 use Rattle.model.proofs.Lending.{left-every}
 use Rattle.model.proofs.Lists.{zeros-at}
-use Rattle.model.proofs.Logs.{due-same}
 use Rattle.model.proofs.Points.{selected-none}
 
 -- the desk before its opening, and after it

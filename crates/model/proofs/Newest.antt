@@ -98,6 +98,14 @@ rising-restated vs ws s R i j l m e =
     let point : recordAt vs i .point .0 ≡ recordAt vs j .point .0 = ap (λ (r : VersionRecord). r .point .0) (sym a) ∙ e ∙ ap (λ (r : VersionRecord). r .point .0) b in
     omega (arith, R i j l (omega (arith, restated-length vs ws s)) point, ap (λ (r : VersionRecord). r .version .0) a, ap (λ (r : VersionRecord). r .version .0) b)
 
+-- two versions of a point have two numbers
+rising-apart : (vs : List VersionRecord) → Rising vs → (i j : ℕ) → i < length vs → j < length vs → recordAt vs i .point .0 ≡ recordAt vs j .point .0 → (i ≡ j → ⊥)
+    → recordAt vs i .version .0 ≡ recordAt vs j .version .0 → ⊥
+rising-apart vs R i j a b e ne z =
+    let before : i < j → ⊥ = λ l. omega (arith, R i j l b e, z) in
+    let behind : j < i → ⊥ = λ l. omega (arith, R j i l a (sym e), z) in
+    omega (arith, ne, before, behind)
+
 -- ---- check data that is its point's highest is above what either run has of its own
 
 own-lower : (vs : List VersionRecord) (p x i : ℕ) (v : VersionRecord) → Rising vs → held p x vs ≡ Has i v → v .status ≡ Check → highest p vs ≤ x → 1 ≤ x
@@ -123,11 +131,7 @@ own-lower vs p x i v R found check top low run = go (own run p vs) (own-highest 
         let at : recordAt vs (r .at) .point .0 ≡ p = eqb-true (recordAt vs (r .at) .point .0) p (and-left (isAt p (recordAt vs (r .at))) _ (k .passes)) in
         let uncounted : isCounted run p (recordAt vs i) ≡ false = rw (h .here, check, and-false (isAt p v)) in
         let apart : r .at ≡ i → ⊥ = λ e. false≢true (sym uncounted ∙ subst (λ (j : ℕ). isCounted run p (recordAt vs j) ≡ true) e (k .passes)) in
-        let other : r .version .0 ≡ x → ⊥ = λ e.
-        let before : r .at < i → ⊥ = λ z. omega (arith, R (r .at) i z (h .within) (at ∙ sym point), there, number, e) in
-        let behind : i < r .at → ⊥ = λ z. omega (arith, R i (r .at) z (k .within) (point ∙ sym at), there, number, e) in
-        omega (arith, apart, before, behind) in
-        omega (arith, l, top, other)
+        omega (arith, l, top, there, number, rising-apart vs R (r .at) i (k .within) (h .within) (at ∙ sym point) apart)
 
 -- ---- an accepted positive notice
 
