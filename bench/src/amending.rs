@@ -388,7 +388,7 @@ impl<const LOOK: u8> Desk<LOOK> {
         self.in_time(day)?;
         let active = self.point(point).ok_or(Cause::NotActive)?;
         let at = look.held.ok_or(Cause::NoVersion)?;
-        refuse_if(number < look.highest, Cause::OlderVersion)?;
+        refuse_if(number < look.highest, Cause::NoticeBelow)?;
         let before = self.versions[at].status;
         refuse_if(before != Status::Check, Cause::NotCheckData)?;
         let [_, clearing, _] = self.opening.deadlines;

@@ -48,11 +48,11 @@ pub enum Cause {
     /// Run 2 before run 1.
     FirstRunOpen = 29,
     /// A notice on a version below the point's highest.
-    OlderVersion = 37,
+    NoticeBelow = 37,
 }
 
 /// The largest number of a cause.
-pub const LAST_CAUSE: usize = Cause::OlderVersion as usize;
+pub const LAST_CAUSE: usize = Cause::NoticeBelow as usize;
 
 /// A refusal where the test holds.
 pub fn refuse_if(test: bool, cause: Cause) -> Result<(), Cause> {

@@ -307,7 +307,7 @@ impl<'a> Month<'a> {
         self.check_day(day)?;
         let active = self.points[point as usize - 1].ok_or(Cause::NotActive)?;
         let at = self.held(point, number).ok_or(Cause::NoVersion)?;
-        refuse_if(active.last != Some(at), Cause::OlderVersion)?;
+        refuse_if(active.last != Some(at), Cause::NoticeBelow)?;
         refuse_if(self.versions[at].status != 1, Cause::NotCheckData)?;
         match verdict {
             0 => Ok(()),
