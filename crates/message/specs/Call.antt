@@ -19,25 +19,31 @@ pub record Sent : Type 0 where
   pub fields : List ℕ
   pub energies : List ℤ
 
--- "1 open, 2 activate, 3 deactivate, 4 submit (with a count before the energies), 5 notice, 6 assign, 7 settle"
+-- "A call is its kind, then fields": "1 open"
 abbrev pub opening : ℕ
 opening = 1
 
+-- "2 activate"
 abbrev pub activation : ℕ
 activation = 2
 
+-- "3 deactivate"
 abbrev pub deactivation : ℕ
 deactivation = 3
 
+-- "4 submit (with a count before the energies)"
 abbrev pub submission : ℕ
 submission = 4
 
+-- "5 notice"
 abbrev pub noticing : ℕ
 noticing = 5
 
+-- "6 assign"
 abbrev pub assignment : ℕ
 assignment = 6
 
+-- "7 settle"
 abbrev pub settlement : ℕ
 settlement = 7
 

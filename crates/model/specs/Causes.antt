@@ -125,6 +125,7 @@ askingVersions p x =
 
 -- ---- what a call is
 
+-- beside its fields: the stores that it takes, the day that it sets, what it asks, and its lines of the table
 pub record Terms : Type 0 where
   -- "(all but open)"
   pub opening : Bool

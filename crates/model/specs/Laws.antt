@@ -56,7 +56,7 @@ pub record OwesOne (vs ws : List VersionRecord) : Type 0 where
   pub elsewhere : (r i : ℕ) → (i ≡ point → ⊥) → SameVersion (own r i ws) (own r i vs)
   pub one : SameVersion (own 1 point ws) (own 1 point vs) ⊎ SameVersion (own 2 point ws) (own 2 point vs)
 
--- "submit: version present", "version below the point's highest": a point's versions rise in the order of their submission
+-- a point's versions rise in the order of their submission: one that is "present", or "below the point's highest", is refused
 abbrev pub Rising : List VersionRecord → Type 0
 Rising vs =
     (i j : ℕ) → i < j → j < length vs → recordAt vs i .point .0 ≡ recordAt vs j .point .0 → recordAt vs i .version .0 < recordAt vs j .version .0
