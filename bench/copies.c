@@ -55,11 +55,11 @@ static void put_number(uint64_t number) {
 
 static uint64_t last_answer(void) {
     static uint64_t values[VALUES], book[BOOK], log[LOG], series[EMORIZUGU_QUARTERS], answers[MOST];
-    uint64_t report[EMORIZUGU_REPORT];
+    uint64_t summary[EMORIZUGU_SUMMARY];
     static uint64_t points[EMORIZUGU_POINTS_LENGTH], versions[EMORIZUGU_VERSIONS_LENGTH];
     emorizugu_replay(file, length, values, VALUES, book, BOOK, log, LOG, series, EMORIZUGU_QUARTERS, answers, MOST,
-                     report, EMORIZUGU_REPORT, points, EMORIZUGU_POINTS_LENGTH, versions, EMORIZUGU_VERSIONS_LENGTH);
-    return report[EMORIZUGU_ANSWERED] == 0 ? 0 : answers[report[EMORIZUGU_ANSWERED] - 1];
+                     summary, EMORIZUGU_SUMMARY, points, EMORIZUGU_POINTS_LENGTH, versions, EMORIZUGU_VERSIONS_LENGTH);
+    return summary[EMORIZUGU_ANSWERED] == 0 ? 0 : answers[summary[EMORIZUGU_ANSWERED] - 1];
 }
 
 int main(void) {

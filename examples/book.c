@@ -36,25 +36,25 @@ static int put_book(const char *name, const uint64_t *book, size_t figures) {
 }
 
 static int run(const char *name, struct emorizugu_lent *r) {
-    const uint64_t *report = r->report;
+    const uint64_t *summary = r->summary;
     uint64_t refusal = emorizugu_run(r);
     uint64_t i;
-    for (i = 0; i < report[EMORIZUGU_ANSWERED]; i++)
+    for (i = 0; i < summary[EMORIZUGU_ANSWERED]; i++)
         printf("%" PRIu64 " %" PRIu64 "\n", i + 1, r->answers[i]);
     if (refusal != EMORIZUGU_ACCEPTED) {
         fprintf(stderr, "book: %s: refused with %" PRIu64 " at offset %" PRIu64 "\n", name, refusal,
-                report[EMORIZUGU_OFFSET]);
+                summary[EMORIZUGU_OFFSET]);
         return 0;
     }
-    if (report[EMORIZUGU_OPENED] == 0) {
+    if (summary[EMORIZUGU_OPENED] == 0) {
         fprintf(stderr, "book: %s: no call of it opens the desk\n", name);
         return 0;
     }
-    if (report[EMORIZUGU_REFUSED] != 0)
+    if (summary[EMORIZUGU_REFUSED] != 0)
         fprintf(stderr, "book: %s: %" PRIu64 " calls are refused, the first is call %" PRIu64 "\n", name,
-                report[EMORIZUGU_REFUSED], report[EMORIZUGU_FIRST]);
-    printf("%" PRIu64 " quarter hours, %" PRIu64 " versions, %" PRIu64 " log rows\n", report[EMORIZUGU_OPENED],
-           report[EMORIZUGU_HELD], report[EMORIZUGU_LOGGED]);
+                summary[EMORIZUGU_REFUSED], summary[EMORIZUGU_FIRST]);
+    printf("%" PRIu64 " quarter hours, %" PRIu64 " versions, %" PRIu64 " log rows\n", summary[EMORIZUGU_OPENED],
+           summary[EMORIZUGU_HELD], summary[EMORIZUGU_LOGGED]);
     return 1;
 }
 
@@ -69,7 +69,7 @@ int main(int argc, char **argv) {
     if (read_file("book", argv[1], &message) && lend("book", &r, &message)) {
         if (!run(argv[1], &r))
             status = REFUSED;
-        else if (put_book(argv[2], r.book, EMORIZUGU_BOOK_LENGTH(r.report[EMORIZUGU_OPENED])))
+        else if (put_book(argv[2], r.book, EMORIZUGU_BOOK_LENGTH(r.summary[EMORIZUGU_OPENED])))
             status = WRITTEN;
     }
     free(message.bytes);

@@ -21,10 +21,10 @@ int main(int argc, char **argv) {
     r.values = values.data(), r.values_length = values.size(), r.book = book.data(), r.book_length = book.size();
     r.log = log.data(), r.log_length = log.size(), r.series = series.data(), r.series_length = series.size();
     r.answers = answers.data(), r.answers_length = answers.size();
-    uint64_t refusal = emorizugu_run(&r), quarters = r.report[EMORIZUGU_OPENED];
-    std::printf("%d refused, ending %d\n", int(r.report[EMORIZUGU_REFUSED]), int(refusal));
+    uint64_t refusal = emorizugu_run(&r), quarters = r.summary[EMORIZUGU_OPENED];
+    std::printf("%d refused, ending %d\n", int(r.summary[EMORIZUGU_REFUSED]), int(refusal));
     for (uint64_t group = 1; group <= EMORIZUGU_GROUPS; group++)
         if (uint64_t sum = emorizugu_sum(book.data(), book.size(), quarters, 1, group - 1))
             std::printf("group %d: %lld Wh\n", int(group), (long long)sum);
-    return refusal != 0 || r.report[EMORIZUGU_REFUSED] != 0;
+    return refusal != 0 || r.summary[EMORIZUGU_REFUSED] != 0;
 }

@@ -83,7 +83,7 @@ extern "C" {
 /* The stack that a call needs, in bytes, with room to spare: a replay was measured to touch 92,895. */
 #define EMORIZUGU_STACK 131072
 
-/* The places of a replay's report. */
+/* The places of a replay's summary. */
 enum {
     EMORIZUGU_ANSWERED,  /* calls answered */
     EMORIZUGU_OFFSET,    /* as emorizugu_file_offset gives it; 0 where the answers are full */
@@ -95,7 +95,7 @@ enum {
     EMORIZUGU_DAY,       /* the desk's day */
     EMORIZUGU_SETTLED_1, /* 1 where run 1 is settled, else 0 */
     EMORIZUGU_SETTLED_2, /* 1 where run 2 is settled, else 0 */
-    EMORIZUGU_REPORT     /* how many places these are */
+    EMORIZUGU_SUMMARY     /* how many places these are */
 };
 
 /*
@@ -174,17 +174,17 @@ uint64_t emorizugu_figure(const uint8_t *book, size_t length, uint64_t quarters,
  * complement, at the places that emorizugu_figure_refusal names; the log four numbers a row: day, point, run, new
  * version. What the desk did not use is as it was.
  * series: room for a submission's energies. answers: answers[i] is that of call i + 1: 0, or the number of the cause
- * that the desk refuses it for. report: EMORIZUGU_REPORT places. points: EMORIZUGU_POINTS_LENGTH, a row a point, with what
+ * that the desk refuses it for. summary: EMORIZUGU_SUMMARY places. points: EMORIZUGU_POINTS_LENGTH, a row a point, with what
  * each run selects and its status. versions: EMORIZUGU_VERSIONS_LENGTH, a row a version.
  *
  * 0 where the whole file was run, else the number of the reader's refusal, 31 to 35, or 35 where the answers are full
- * and bytes are left (the report then has as many calls answered as there are answers). 2 where report (10), points
+ * and bytes are left (the summary then has as many calls answered as there are answers). 2 where summary (10), points
  * (2,304) or versions (2,048) have fewer places; nothing is done then. A file that was run may have calls that were
- * refused: the report says how many, and which was the first.
+ * refused: the summary says how many, and which was the first.
  */
 uint64_t emorizugu_replay(const uint8_t *file, size_t length, uint64_t *values, size_t values_length, uint64_t *book,
                           size_t book_length, uint64_t *log, size_t log_length, uint64_t *series, size_t series_length,
-                          uint64_t *answers, size_t answers_length, uint64_t *report, size_t report_length,
+                          uint64_t *answers, size_t answers_length, uint64_t *summary, size_t summary_length,
                           uint64_t *points, size_t points_length, uint64_t *versions, size_t versions_length);
 
 /* What a replay is lent, by name. */
@@ -201,7 +201,7 @@ struct emorizugu_lent {
     size_t series_length;
     uint64_t *answers;
     size_t answers_length;
-    uint64_t report[EMORIZUGU_REPORT];
+    uint64_t summary[EMORIZUGU_SUMMARY];
     uint64_t points[EMORIZUGU_POINTS_LENGTH];
     uint64_t versions[EMORIZUGU_VERSIONS_LENGTH];
 };
@@ -209,8 +209,8 @@ struct emorizugu_lent {
 /* emorizugu_replay with what is lent by name. */
 static inline uint64_t emorizugu_run(struct emorizugu_lent *r) {
     return emorizugu_replay(r->file, r->length, r->values, r->values_length, r->book, r->book_length, r->log,
-                            r->log_length, r->series, r->series_length, r->answers, r->answers_length, r->report,
-                            EMORIZUGU_REPORT, r->points, EMORIZUGU_POINTS_LENGTH, r->versions,
+                            r->log_length, r->series, r->series_length, r->answers, r->answers_length, r->summary,
+                            EMORIZUGU_SUMMARY, r->points, EMORIZUGU_POINTS_LENGTH, r->versions,
                             EMORIZUGU_VERSIONS_LENGTH);
 }
 

@@ -43,10 +43,10 @@ static void *run(void *refusal) {
 static int nothing(void) {
     static struct emorizugu_lent none;
     uint64_t size = 7;
-    if (emorizugu_run(&none) != 0 || none.report[EMORIZUGU_ANSWERED] != 0)
+    if (emorizugu_run(&none) != 0 || none.summary[EMORIZUGU_ANSWERED] != 0)
         return wrong("a replay of nothing");
     if (emorizugu_replay(NULL, 0, NULL, 0, NULL, 0, NULL, 0, NULL, 0, NULL, 0, NULL, 0, NULL, 0, NULL, 0) != 2)
-        return wrong("a replay with no report");
+        return wrong("a replay with no summary");
     if (emorizugu_file_refusal(NULL, 0) != 0 || emorizugu_file_offset(NULL, 0) != 0)
         return wrong("an empty file");
     if (emorizugu_figure_refusal(NULL, 0, 1, 1, 1, 1) != 2 || emorizugu_figure(NULL, 0, 1, 1, 1, 1) != 0)
@@ -74,7 +74,7 @@ static int selected(void) {
 static int places(size_t points, uint64_t answer) {
     static struct emorizugu_lent none;
     none.points[0] = 9;
-    if (emorizugu_replay(NULL, 0, NULL, 0, NULL, 0, NULL, 0, NULL, 0, NULL, 0, none.report, EMORIZUGU_REPORT,
+    if (emorizugu_replay(NULL, 0, NULL, 0, NULL, 0, NULL, 0, NULL, 0, NULL, 0, none.summary, EMORIZUGU_SUMMARY,
                          none.points, points, none.versions, EMORIZUGU_VERSIONS_LENGTH) != answer)
         return wrong("the places of the points");
     return none.points[0] == (answer == 0 ? 0 : 9) ? 0 : wrong("points that are too few");
@@ -97,7 +97,7 @@ static int small_stack(const char *name) {
     pthread_attr_setstacksize(&attributes, EMORIZUGU_STACK);
     if (pthread_create(&thread, &attributes, run, &refusal) != 0 || pthread_join(thread, NULL) != 0)
         return wrong("no thread");
-    if (refusal != 0 || r.report[EMORIZUGU_REFUSED] != 0)
+    if (refusal != 0 || r.summary[EMORIZUGU_REFUSED] != 0)
         return wrong("a replay on a small stack");
     return selected();
 }

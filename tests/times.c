@@ -29,7 +29,7 @@ static void read_calls(void) {
 }
 
 static void sums(void) {
-    uint64_t row, quarters = r.report[EMORIZUGU_OPENED], all = 0;
+    uint64_t row, quarters = r.summary[EMORIZUGU_OPENED], all = 0;
     for (row = 0; row < EMORIZUGU_BOOK_ROWS / 2; row++)
         all += emorizugu_sum(r.book, r.book_length, quarters, 1, row) + emorizugu_sum(r.book, r.book_length, quarters, 2, row) +
                emorizugu_difference(r.book, r.book_length, quarters, row);

@@ -2,10 +2,10 @@
 
 use crate::series::BOOK_ROWS;
 
-/// Places of a report.
-pub const REPORT: usize = 5;
+/// Places of a summary.
+pub const SUMMARY: usize = 5;
 
-/// The stores, the series buffer, and what the answers and the report are written to.
+/// The stores, the series buffer, and what the answers and the summary are written to.
 #[derive(Clone)]
 pub struct Buffers {
     /// The values.
@@ -20,7 +20,7 @@ pub struct Buffers {
     pub answers: Vec<u64>,
     /// Calls answered; the offset of the refused call, the file's length, or 0 where the answers are full; Q; log rows
     /// used; versions held.
-    pub report: Vec<u64>,
+    pub summary: Vec<u64>,
 }
 
 impl Buffers {
@@ -33,7 +33,7 @@ impl Buffers {
             log: places(4 * versions),
             series: places(quarters),
             answers: places(calls),
-            report: places(REPORT),
+            summary: places(SUMMARY),
         }
     }
 
@@ -41,7 +41,7 @@ impl Buffers {
     pub fn named(&self) -> [(&'static str, &[u64]); 6] {
         [
             ("answers", &self.answers),
-            ("report", &self.report),
+            ("summary", &self.summary),
             ("log", &self.log),
             ("series", &self.series),
             ("values", &self.values),

@@ -1,6 +1,6 @@
 //! The host's entry for a whole message file, lent the buffers of a replay.
 
-use crate::buffers::{Buffers, REPORT};
+use crate::buffers::{Buffers, SUMMARY};
 use emorizugu_tests::linked;
 use emorizugu_tests::replay;
 
@@ -12,13 +12,13 @@ pub fn replay(file: &[u8], buffers: &mut Buffers) -> u64 {
         log,
         series,
         answers,
-        report,
+        summary,
     } = buffers;
-    let mut told = [0; replay::REPORT];
+    let mut told = [0; replay::SUMMARY];
     let (mut points, mut versions) = ([0; replay::POINTS], [0; replay::VERSIONS]);
     let tables = [&mut told[..], &mut points, &mut versions];
     let number = linked::replay(file, values, book, log, series, answers, tables);
-    let places = report.len().min(REPORT);
-    report[..places].copy_from_slice(&told[..places]);
+    let places = summary.len().min(SUMMARY);
+    summary[..places].copy_from_slice(&told[..places]);
     number
 }

@@ -1,6 +1,6 @@
 //! A message file handed to a desk in Rust, call after call.
 
-use crate::buffers::{lent, Buffers, REPORT};
+use crate::buffers::{lent, Buffers, SUMMARY};
 use crate::reader::Reader;
 use emorizugu_tests::message::{Call, Cause};
 
@@ -34,9 +34,9 @@ pub fn replay(mut desk: impl Desk, file: &[u8], buffers: &mut Buffers) -> u64 {
         log,
         series,
         answers,
-        report,
+        summary,
     } = buffers;
-    if report.len() < REPORT {
+    if summary.len() < SUMMARY {
         return 2;
     }
     let mut reader = Reader::new();
@@ -69,6 +69,6 @@ pub fn replay(mut desk: impl Desk, file: &[u8], buffers: &mut Buffers) -> u64 {
     let quarters = desk.quarters();
     let (used, held) = desk.ended(values, log);
     let told = [answered as u64, at, quarters, used as u64, held as u64];
-    report[..REPORT].copy_from_slice(&told);
+    summary[..SUMMARY].copy_from_slice(&told);
     result
 }

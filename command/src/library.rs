@@ -18,9 +18,9 @@ pub const GROUPS: u64 = 64;
 const POINT_PLACES: usize = 9;
 /// The places of a version: point, version, status, row of values.
 const VERSION_PLACES: usize = 4;
-/// The places of a replay's report: calls answered, offset, quarter hours, log rows, versions held, calls refused, the
+/// The places of a replay's summary: calls answered, offset, quarter hours, log rows, versions held, calls refused, the
 /// first of them, the day, run 1 settled, run 2 settled.
-const REPORT: usize = 10;
+const SUMMARY: usize = 10;
 
 /// A call as it was read.
 pub struct ReadCall {
@@ -214,7 +214,7 @@ pub fn replay(file: &[u8], calls: usize) -> Replay {
     let mut log = vec![0; 4 * 2 * VERSIONS];
     let mut series = vec![0; MOST_QUARTERS];
     let mut answers = vec![0; calls];
-    let mut report = [0; REPORT];
+    let mut summary = [0; SUMMARY];
     let mut points = vec![0; POINT_PLACES * POINTS];
     let mut versions = vec![0; VERSION_PLACES * VERSIONS];
     let ending = unsafe {
@@ -231,15 +231,15 @@ pub fn replay(file: &[u8], calls: usize) -> Replay {
             series.len(),
             answers.as_mut_ptr(),
             answers.len(),
-            report.as_mut_ptr(),
-            report.len(),
+            summary.as_mut_ptr(),
+            summary.len(),
             points.as_mut_ptr(),
             points.len(),
             versions.as_mut_ptr(),
             versions.len(),
         )
     };
-    let [answered, offset, quarters, logged, held, refused, _, day, first, second] = report;
+    let [answered, offset, quarters, logged, held, refused, _, day, first, second] = summary;
     answers.truncate(answered as usize);
     log.truncate(4 * logged as usize);
     versions.truncate(VERSION_PLACES * held as usize);

@@ -46,7 +46,7 @@ pub fn figure(book: &[u8], quarters: u64, run: u64, group: u64, quarter: u64) ->
     unsafe { emorizugu_figure(book.as_ptr(), book.len(), quarters, run, group, quarter) }
 }
 
-/// `emorizugu_replay`; the tables are report, points and versions.
+/// `emorizugu_replay`; the tables are summary, points and versions.
 pub fn replay(
     file: &[u8],
     values: &mut [u64],
@@ -56,7 +56,7 @@ pub fn replay(
     answers: &mut [u64],
     tables: [&mut [u64]; 3],
 ) -> u64 {
-    let [report, points, versions] = tables;
+    let [summary, points, versions] = tables;
     unsafe {
         emorizugu_replay(
             file.as_ptr(),
@@ -71,8 +71,8 @@ pub fn replay(
             series.len(),
             answers.as_mut_ptr(),
             answers.len(),
-            report.as_mut_ptr(),
-            report.len(),
+            summary.as_mut_ptr(),
+            summary.len(),
             points.as_mut_ptr(),
             points.len(),
             versions.as_mut_ptr(),

@@ -7,9 +7,9 @@ use crate::generator::Random;
 use crate::message::{self, fields_of, Refusal};
 use crate::script::Stores;
 
-/// Places of a report: calls answered, offset, quarter hours, log rows used, versions held, calls refused, the first of
+/// Places of a summary: calls answered, offset, quarter hours, log rows used, versions held, calls refused, the first of
 /// them, the day, whether run 1 and run 2 are settled.
-pub const REPORT: usize = 10;
+pub const SUMMARY: usize = 10;
 
 /// Places of a point: active, since, kind, area, partner, the version of run 1, that of run 2, the status of run 1's
 /// version, that of run 2's.
@@ -26,7 +26,7 @@ pub const BOOK_ROWS: u64 = 162;
 
 /// The stores of a replay, in their order.
 pub const NAMES: [&str; 8] = [
-    "values", "book", "log", "series", "answers", "report", "points", "versions",
+    "values", "book", "log", "series", "answers", "summary", "points", "versions",
 ];
 
 /// What a replay is lent.
@@ -38,12 +38,12 @@ pub struct Lent {
     pub series: Vec<u64>,
     /// Room for the answers.
     pub answers: Vec<u64>,
-    /// Room for the report, the points and the versions.
+    /// Room for the summary, the points and the versions.
     pub tables: [Vec<u64>; 3],
 }
 
 impl Lent {
-    /// Stores, series buffer, answers, report, points and versions of so many places, filled with words from a seed.
+    /// Stores, series buffer, answers, summary, points and versions of so many places, filled with words from a seed.
     pub fn filled(
         lengths: Lengths,
         series: usize,
@@ -65,9 +65,9 @@ impl Lent {
     /// Each store, in the order of `NAMES`.
     pub fn each(&self) -> [&[u64]; 8] {
         let Stores { values, book, log } = &self.stores;
-        let [report, points, versions] = &self.tables;
+        let [summary, points, versions] = &self.tables;
         let (series, answers) = (&self.series, &self.answers);
-        [values, book, log, series, answers, report, points, versions]
+        [values, book, log, series, answers, summary, points, versions]
     }
 
     fn lengths(&self) -> Lengths {
@@ -177,13 +177,13 @@ fn lent_to(call: &Call, desk: &Desk, whole: Lengths) -> Lengths {
     }
 }
 
-/// Whether report, points and versions have their places.
+/// Whether summary, points and versions have their places.
 fn fit(tables: &[Vec<u64>; 3]) -> bool {
-    let [report, points, versions] = tables;
-    report.len() >= REPORT && points.len() >= POINTS && versions.len() >= VERSIONS
+    let [summary, points, versions] = tables;
+    summary.len() >= SUMMARY && points.len() >= POINTS && versions.len() >= VERSIONS
 }
 
-/// Runs a file and leaves in every store what the run makes of it; none where report, points or versions have fewer
+/// Runs a file and leaves in every store what the run makes of it; none where summary, points or versions have fewer
 /// than their places, and every store is then as it was.
 pub fn replay(file: &[u8], lent: &mut Lent) -> Option<Run> {
     if !fit(&lent.tables) {
@@ -195,30 +195,30 @@ pub fn replay(file: &[u8], lent: &mut Lent) -> Option<Run> {
         *place = *answer;
     }
     lent.stores = stores_after(&run.desk, lent.stores.clone());
-    let told = [report_of(&run).to_vec(), points_of(&run), versions_of(&run)];
+    let told = [summary_of(&run).to_vec(), points_of(&run), versions_of(&run)];
     for (table, told) in lent.tables.iter_mut().zip(told) {
         table[..told.len()].copy_from_slice(&told);
     }
     Some(run)
 }
 
-fn report_of(run: &Run) -> [u64; REPORT] {
+fn summary_of(run: &Run) -> [u64; SUMMARY] {
     let refused = || run.answered.iter().map(|(_, answer)| *answer != 0);
     let first = refused().position(|refused| refused);
-    let mut report = [0; REPORT];
-    report[0] = run.answered.len() as u64;
-    report[1] = run.ending.offset();
-    report[5] = refused().filter(|refused| *refused).count() as u64;
-    report[6] = first.map_or(0, |at| at as u64 + 1);
+    let mut summary = [0; SUMMARY];
+    summary[0] = run.answered.len() as u64;
+    summary[1] = run.ending.offset();
+    summary[5] = refused().filter(|refused| *refused).count() as u64;
+    summary[6] = first.map_or(0, |at| at as u64 + 1);
     if let Some(month) = run.desk.month() {
-        report[2] = month.quarters;
-        report[3] = month.log.len() as u64;
-        report[4] = month.rows.len() as u64;
-        report[7] = month.day;
-        report[8] = month.settled[0].into();
-        report[9] = month.settled[1].into();
+        summary[2] = month.quarters;
+        summary[3] = month.log.len() as u64;
+        summary[4] = month.rows.len() as u64;
+        summary[7] = month.day;
+        summary[8] = month.settled[0].into();
+        summary[9] = month.settled[1].into();
     }
-    report
+    summary
 }
 
 fn points_of(run: &Run) -> Vec<u64> {

@@ -6,7 +6,7 @@ use emorizugu_tests::linked;
 use emorizugu_tests::message;
 use emorizugu_tests::numbers::{self, ANSWER, NO_CALL};
 use emorizugu_tests::program;
-use emorizugu_tests::replay::{self, Lent, POINT, POINTS, REPORT, VERSIONS};
+use emorizugu_tests::replay::{self, Lent, POINT, POINTS, SUMMARY, VERSIONS};
 use emorizugu_tests::script::{self, Outcome, Record, Stores};
 use std::env;
 
@@ -726,7 +726,7 @@ fn lent(rows: usize) -> Lent {
         book: 324,
         log: 4 * rows as u64,
     };
-    Lent::filled(lengths, 2, 16, [REPORT, POINTS, VERSIONS], 19)
+    Lent::filled(lengths, 2, 16, [SUMMARY, POINTS, VERSIONS], 19)
 }
 
 fn plain_replay(file: &[u8], lent: &mut Lent) {
@@ -735,7 +735,7 @@ fn plain_replay(file: &[u8], lent: &mut Lent) {
 
 fn linked_replay(file: &[u8], lent: &mut Lent) {
     let Stores { values, book, log } = &mut lent.stores;
-    let [report, points, versions] = &mut lent.tables;
+    let [summary, points, versions] = &mut lent.tables;
     let (series, answers) = (&mut lent.series, &mut lent.answers);
     linked::replay(
         file,
@@ -744,7 +744,7 @@ fn linked_replay(file: &[u8], lent: &mut Lent) {
         log,
         series,
         answers,
-        [report, points, versions],
+        [summary, points, versions],
     );
 }
 
@@ -781,11 +781,11 @@ fn compare_replay(case: &Selections, replay: fn(&[u8], &mut Lent), left: usize) 
     let mut log = lent.stores.log.clone();
     log[..4 * used].copy_from_slice(&case.log.concat());
     replay(&case.file(), &mut lent);
-    let [report, points, _] = &lent.tables;
+    let [summary, points, _] = &lent.tables;
     let answers = &lent.answers[..case.answers.len()];
     assert_eq!(answers, case.answers, "{}", case.why);
     assert_eq!(told(points), case.selected, "{}", case.why);
-    let logged = (report[3], lent.stores.log);
+    let logged = (summary[3], lent.stores.log);
     assert_eq!(logged, (used as u64, log), "{}", case.why);
 }
 

@@ -1,5 +1,5 @@
 //! The replay of a whole message file: the linked one and the second one on files of months, with stores, series
-//! buffers, answers and reports of many lengths, everything compared whole.
+//! buffers, answers and summaries of many lengths, everything compared whole.
 
 use emorizugu_tests::call::{Call, Lengths};
 use emorizugu_tests::compare::shortest_list;
@@ -13,7 +13,7 @@ use emorizugu_tests::months::{self, Size, SPARE};
 use emorizugu_tests::notices;
 use emorizugu_tests::numbers::SHORT;
 use emorizugu_tests::replay::{
-    self, Ending, Lent, Run, BOOK_ROWS, NAMES, POINTS, REPORT, VERSIONS,
+    self, Ending, Lent, Run, BOOK_ROWS, NAMES, POINTS, SUMMARY, VERSIONS,
 };
 use emorizugu_tests::tally::Tally;
 
@@ -51,8 +51,8 @@ struct Case {
     seed: u64,
 }
 
-/// Report, points and versions with their places, and no more.
-const TABLES: [usize; 3] = [REPORT, POINTS, VERSIONS];
+/// Summary, points and versions with their places, and no more.
+const TABLES: [usize; 3] = [SUMMARY, POINTS, VERSIONS];
 
 impl Case {
     fn file(&self) -> Vec<u8> {
@@ -137,7 +137,7 @@ impl Case {
     fn count(&self, run: Option<&Run>, tally: &mut Tally) {
         let number = run.map_or(SHORT, |run| run.ending.number());
         tally.add("replay", number);
-        let names = ["report's places", "points' places", "versions' places"];
+        let names = ["summary's places", "points' places", "versions' places"];
         for (name, places) in names.into_iter().zip(self.tables) {
             tally.add(name, places as u64);
         }
@@ -230,12 +230,12 @@ impl Case {
 fn linked_replay(file: &[u8], lent: &Lent) -> (u64, [Vec<u64>; 8]) {
     let mut stores = lent.each().map(|store| [&FENCE, store, &FENCE].concat());
     let inside = |store: &mut Vec<u64>| FENCE.len()..store.len() - FENCE.len();
-    let [values, book, log, series, answers, report, points, versions] =
+    let [values, book, log, series, answers, summary, points, versions] =
         stores.each_mut().map(|store| {
             let inside = inside(store);
             &mut store[inside]
         });
-    let tables = [report, points, versions];
+    let tables = [summary, points, versions];
     let number = linked::replay(file, values, book, log, series, answers, tables);
     (number, stores)
 }
@@ -315,11 +315,11 @@ fn case(random: &mut Random, size: Size) -> (Case, Shape) {
     };
     let tables = match random.below(32) {
         0 => [0, 0, 0],
-        1 => [REPORT - 1, POINTS, VERSIONS],
-        2 => [REPORT, POINTS - 1, VERSIONS],
-        3 => [REPORT, POINTS, VERSIONS - 1],
+        1 => [SUMMARY - 1, POINTS, VERSIONS],
+        2 => [SUMMARY, POINTS - 1, VERSIONS],
+        3 => [SUMMARY, POINTS, VERSIONS - 1],
         4..=16 => TABLES,
-        _ => [REPORT + 4, POINTS + 3, VERSIONS + 5],
+        _ => [SUMMARY + 4, POINTS + 3, VERSIONS + 5],
     };
     let case = Case {
         parts,
@@ -354,7 +354,7 @@ fn files_of_months_agree() {
     tally.demand("count above the series buffer", &[35], LEAST);
     tally.demand("the answers are full", &[35], LEAST);
     tally.demand("as the file's verdict", &[0, 31, 32, 33, 34], LEAST);
-    tally.demand("report's places", &[0, 9, 10, 14], LEAST);
+    tally.demand("summary's places", &[0, 9, 10, 14], LEAST);
     tally.demand("points' places", &[0, 2_303, 2_304, 2_307], LEAST);
     tally.demand("versions' places", &[0, 2_047, 2_048, 2_053], LEAST);
     tally.demand("series buffer", &[0, 1, 2, 3, 4, 5, 7, 8, 9, 2_980], 20);
@@ -524,8 +524,8 @@ fn every_cut_agrees() {
 #[test]
 fn every_length_agrees() {
     let (case, mut tally) = (accepted_case(), Tally::new());
-    let mut compare = |lengths: Lengths, report: usize| {
-        let tables = [report, POINTS, VERSIONS];
+    let mut compare = |lengths: Lengths, summary: usize| {
+        let tables = [summary, POINTS, VERSIONS];
         let case = Case {
             lengths,
             tables,
@@ -539,23 +539,23 @@ fn every_length_agrees() {
                 book,
                 ..case.lengths
             },
-            REPORT,
+            SUMMARY,
         );
     }
     for values in 0..=9 {
         for log in 0..=13 {
             let book = case.lengths.book;
-            compare(Lengths { values, book, log }, REPORT);
+            compare(Lengths { values, book, log }, SUMMARY);
         }
     }
-    for report in 0..=12 {
-        compare(case.lengths, report);
+    for summary in 0..=12 {
+        compare(case.lengths, summary);
     }
     tally.print();
     tally.demand("opening too large for the book", &[4], 324);
     tally.demand("log not a multiple of 4", &[4], 100);
     tally.demand("submit", &[0, 1, 16, 17], 8);
-    tally.demand("replay", &[0, SHORT], REPORT as u64);
+    tally.demand("replay", &[0, SHORT], SUMMARY as u64);
 }
 
 /// The example of document 01, with what each store has to hold.
@@ -583,7 +583,7 @@ fn the_example_leaves_what_document_01_says() {
         },
         series: 2,
         answers: 5,
-        tables: [REPORT + 1, POINTS, VERSIONS],
+        tables: [SUMMARY + 1, POINTS, VERSIONS],
         seed: 14,
     };
     let before = case.lent();
@@ -596,8 +596,8 @@ fn the_example_leaves_what_document_01_says() {
     after.stores.log[..4].copy_from_slice(&[2, 1, 1, 7]);
     after.series[0] = 1000;
     after.answers[..4].copy_from_slice(&[0, 0, 0, 14]);
-    let [report, points, versions] = &mut after.tables;
-    report[..REPORT].copy_from_slice(&[4, 43, 1, 1, 1, 1, 4, 2, 0, 0]);
+    let [summary, points, versions] = &mut after.tables;
+    summary[..SUMMARY].copy_from_slice(&[4, 43, 1, 1, 1, 1, 4, 2, 0, 0]);
     points.fill(0);
     points[..9].copy_from_slice(&[1, 0, 1, 1, 0, 7, 7, 2, 2]);
     versions[..4].copy_from_slice(&[1, 7, 2, 0]);

@@ -100,7 +100,7 @@ fn compare_any() {
         match compare(&month.file, &lent, &DESKS) {
             Err(difference) => stop(&format!("file {seed} of any calls: {difference}")),
             Ok(left) => {
-                for &answer in &left.answers[..left.report[0] as usize] {
+                for &answer in &left.answers[..left.summary[0] as usize] {
                     answers[answer as usize] += 1;
                 }
             }
@@ -108,7 +108,7 @@ fn compare_any() {
     }
     let given = (0..).zip(answers).filter(|&(_, count)| count > 0);
     let given: Vec<String> = given.map(|(n, count)| format!("{n}: {count}")).collect();
-    println!("The five desks are the same in answers, report, log, series, values and book on {COMPARED} files of any calls,");
+    println!("The five desks are the same in answers, summary, log, series, values and book on {COMPARED} files of any calls,");
     println!("with these answers: {};", given.join(", "));
     println!("and on each month below, where every call is accepted.");
     println!();
@@ -121,7 +121,7 @@ fn compare_month(month: &Month) -> Buffers {
         Ok(left) => left,
     };
     let accepted = left.answers.iter().filter(|&&answer| answer == 0).count();
-    if (accepted, left.report[0]) != (month.calls, month.calls as u64) {
+    if (accepted, left.summary[0]) != (month.calls, month.calls as u64) {
         stop(&format!("Q = {}: a call is refused", month.quarters));
     }
     left
@@ -243,7 +243,7 @@ fn once(name: &str, month: &Month) {
         "none" => 0,
         _ => desk(name)(&month.file, &mut buffers),
     };
-    println!("{name}: {result}, {:?}", buffers.report);
+    println!("{name}: {result}, {:?}", buffers.summary);
 }
 
 fn number(word: &str) -> usize {

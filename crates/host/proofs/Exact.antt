@@ -21,7 +21,7 @@ use Rattle.model.specs.Plain.{openingOf, figure, plainEnd}
 use Rattle.replay.specs.Replay.{callsFor, toldOf, Leaving}
 use Rattle.replay.proofs.Bounds.{Bounded, replay-bounded}
 use Rattle.host.specs.Month.{sumFrom, rowOk, monthOf, plainMonth, Exact}
-use Rattle.host.specs.Replay.{Places, fitting, Reported}
+use Rattle.host.specs.Replay.{Places, fitting, Summarised}
 
 -- words added up, wrapped, are the word of the exact sum
 module _ (s : List ℕ) (at : ℕ) (f : ℕ → ℤ) where
@@ -65,14 +65,14 @@ module _ (h : List Told) (s after : Stores) (B : Bounded h) (L : Leaving h s aft
 
 -- after a replay, whatever the file and the stores
 module _ (file : List ℕ) (s : Stores) (buffer output : List ℕ) (p : Places) (number : ℕ) (after : Stores) (buffer′ output′ : List ℕ) (p′ : Places)
-    (R : Reported file s buffer output p number after buffer′ output′ p′) (enough : fitting p ≡ true) where
+    (R : Summarised file s buffer output p number after buffer′ output′ p′) (enough : fitting p ≡ true) where
   -- the plain desk's list of accepted calls
   abbrev list : List Told
   list = plainEnd [] (toldOf s (callsFor file (length buffer) (length output)))
 
-  -- Q is told in the report
-  pub quarters-told : getD (p′ .report) 2 0 ≡ openingOf list .quarters
-  quarters-told = ap (λ (l : List ℕ). getD l 2 0) (R .runs enough .report)
+  -- Q is told in the summary
+  pub quarters-told : getD (p′ .summary) 2 0 ≡ openingOf list .quarters
+  quarters-told = ap (λ (l : List ℕ). getD l 2 0) (R .runs enough .summary)
 
   -- and sums and differences over the book that is left are exact
   pub months-exact : Exact list (after .book)

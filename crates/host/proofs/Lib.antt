@@ -2,4 +2,4 @@ pub mod Exact
 pub mod GivenBack
 pub mod Months
 pub mod Places
-pub mod Reports
+pub mod Summaries

@@ -15,7 +15,7 @@ use Rattle.model.specs.Plain.{openingOf, dayOf, pointsOf, versionsOf, logOf, se
 use Rattle.replay.specs.Replay.{callsFor, endingOf, toldOf, numbersOf, over, Gives}
 use Rattle.replay.specs.declared.Ending.{Ending}
 use Rattle.replay.specs.declared.Ending.the-variants.{End, Refused, Full}
-use Rattle.report.specs.Table.{pointsPlaces, versionsPlaces, pointTable, versionTable, refusals, firstRefused, flagNumber}
+use Rattle.summary.specs.Table.{pointsPlaces, versionsPlaces, pointTable, versionTable, refusals, firstRefused, flagNumber}
 
 -- 0, or the number of the first refusal; 35 too where the answers are full ("output too short")
 abbrev pub endingNumber : Ending → ℕ
@@ -29,27 +29,27 @@ endingOffset n End = n
 endingOffset n (Refused x at) = at
 endingOffset n Full = 0
 
--- the places that are lent for what a replay tells: its report, the points, the versions
+-- the places that are lent for what a replay tells: its summary, the points, the versions
 pub record Places : Type 0 where
-  pub report : List ℕ
+  pub summary : List ℕ
   pub points : List ℕ
   pub versions : List ℕ
 
 -- the same of its parts
-abbrev pub placesOf : (report points versions : List ℕ) → Places
-placesOf r p v = record { report = r; points = p; versions = v }
+abbrev pub placesOf : (summary points versions : List ℕ) → Places
+placesOf r p v = record { summary = r; points = p; versions = v }
 
--- how many numbers a report has
-abbrev pub reportPlaces : ℕ
-reportPlaces = 10
+-- how many numbers a summary has
+abbrev pub summaryPlaces : ℕ
+summaryPlaces = 10
 
--- whether there are places enough: for a report, for every point and for every version that a desk can hold
-abbrev pub fits : (report points versions : ℕ) → Bool
-fits r p v = leb reportPlaces r && (leb pointsPlaces p && leb versionsPlaces v)
+-- whether there are places enough: for a summary, for every point and for every version that a desk can hold
+abbrev pub fits : (summary points versions : ℕ) → Bool
+fits r p v = leb summaryPlaces r && (leb pointsPlaces p && leb versionsPlaces v)
 
 -- the same of the places lent
 abbrev pub fitting : Places → Bool
-fitting p = fits (length (p .report)) (length (p .points)) (length (p .versions))
+fitting p = fits (length (p .summary)) (length (p .points)) (length (p .versions))
 
 -- how many calls are answered, the offset, Q (0: not open), log rows used, versions held, how many calls are refused, which is the first, the
 -- desk's day, whether run 1 is settled and whether run 2 is
@@ -57,15 +57,15 @@ abbrev pub listed : (answered offset quarters used held refused first day : ℕ)
 listed answered offset quarters used held refused first day settled =
     answered ∷ offset ∷ quarters ∷ used ∷ held ∷ refused ∷ first ∷ day ∷ flagNumber (settled .first) ∷ flagNumber (settled .second) ∷ []
 
--- the report on a file of so many bytes, with the plain desk's answers and its list
-abbrev pub reportOf : (length answered : ℕ) → Ending → (answers : List ℕ) → List Told → List ℕ
-reportOf n answered e answers h =
+-- the summary on a file of so many bytes, with the plain desk's answers and its list
+abbrev pub summaryOf : (length answered : ℕ) → Ending → (answers : List ℕ) → List Told → List ℕ
+summaryOf n answered e answers h =
     listed answered (endingOffset n e) (openingOf h .quarters) (length (logOf h)) (length (versionsOf h)) (refusals answers) (firstRefused 1 answers) (dayOf h) (settledOf h)
 
 -- a file that is run
 pub record Ran (file : List ℕ) (cs : List Given) (e : Ending) (s : Stores) (buffer output : List ℕ) (p : Places) (number : ℕ) (after : Stores) (buffer′ output′ : List ℕ) (p′ : Places) : Type 0 where
   pub answer : number ≡ endingNumber e
-  pub report : p′ .report ≡ over (reportOf (length file) (length cs) e (numbersOf (plainReplies [] (toldOf s cs))) (plainEnd [] (toldOf s cs))) (p .report)
+  pub summary : p′ .summary ≡ over (summaryOf (length file) (length cs) e (numbersOf (plainReplies [] (toldOf s cs))) (plainEnd [] (toldOf s cs))) (p .summary)
   pub points : p′ .points ≡ over (pointTable (pointsOf (plainEnd [] (toldOf s cs))) (versionsOf (plainEnd [] (toldOf s cs)))) (p .points)
   pub versions : p′ .versions ≡ over (versionTable (versionsOf (plainEnd [] (toldOf s cs)))) (p .versions)
   pub gives : Gives cs s buffer output after buffer′ output′
@@ -79,6 +79,6 @@ pub record Kept (number : ℕ) (s after : Stores) (buffer buffer′ output outpu
   pub places : p′ ≡ p
 
 -- either, by the places lent
-pub record Reported (file : List ℕ) (s : Stores) (buffer output : List ℕ) (p : Places) (number : ℕ) (after : Stores) (buffer′ output′ : List ℕ) (p′ : Places) : Type 0 where
+pub record Summarised (file : List ℕ) (s : Stores) (buffer output : List ℕ) (p : Places) (number : ℕ) (after : Stores) (buffer′ output′ : List ℕ) (p′ : Places) : Type 0 where
   pub short : fitting p ≡ false → Kept number s after buffer buffer′ output output′ p p′
   pub runs : fitting p ≡ true → Ran file (callsFor file (length buffer) (length output)) (endingOf (length file) (length output) (callsIn (length buffer) file)) s buffer output p number after buffer′ output′ p′

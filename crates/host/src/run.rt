@@ -3,24 +3,24 @@ use crate::TOO_SHORT;
 use message::cause;
 use quantity::Day;
 use replay::Ending;
-use report::Refusals;
-use report::table::POINT_PLACES;
-use report::table::VERSION_PLACES;
-use report::table::put_points;
-use report::table::put_row;
-use report::table::put_versions;
-use report::table::refusals_of;
 use state::Runs;
+use summary::Refusals;
+use summary::table::POINT_PLACES;
+use summary::table::VERSION_PLACES;
+use summary::table::put_points;
+use summary::table::put_row;
+use summary::table::put_versions;
+use summary::table::refusals_of;
 ghost use mathlib.Core.Path.{_≡_};
 ghost use Rattle.checks.specs.Stepped.{storesOf};
 ghost use Prim.Native.Nat.{_≤_};
 ghost use lib.ListN.{length};
 ghost use Rattle.replay.specs.Replay.{over};
-ghost use Rattle.host.specs.Replay.{endingNumber, endingOffset, reportPlaces, fits, listed, placesOf, Reported};
-ghost use Rattle.report.specs.Table.{flagNumber};
+ghost use Rattle.host.specs.Replay.{endingNumber, endingOffset, summaryPlaces, fits, listed, placesOf, Summarised};
+ghost use Rattle.summary.specs.Table.{flagNumber};
 
-// How many numbers a report has.
-const REPORT_PLACES: usize = 10;
+// How many numbers a summary has.
+const SUMMARY_PLACES: usize = 10;
 
 fn number_of(ending: Ending) -> u64
     ensures { λ r. ⌜ r ≡ endingNumber ending ⌝ }
@@ -48,16 +48,16 @@ fn flag_number(flag: bool) -> u64
     if flag { 1 } else { 0 }
 }
 
-// Whether the places lent are as many as a report, the points and the versions take.
-fn all_fit(report: usize, points: usize, versions: usize) -> bool
-    ensures { λ r. ⌜ r ≡ fits report points versions ⌝ }
+// Whether the places lent are as many as a summary, the points and the versions take.
+fn all_fit(summary: usize, points: usize, versions: usize) -> bool
+    ensures { λ r. ⌜ r ≡ fits summary points versions ⌝ }
 {
-    (REPORT_PLACES <= report) & ((POINT_PLACES <= points) & (VERSION_PLACES <= versions))
+    (SUMMARY_PLACES <= summary) & ((POINT_PLACES <= points) & (VERSION_PLACES <= versions))
 }
 
-// The ten places of a report.
-fn put_report(
-    report: &mut [u64],
+// The ten places of a summary.
+fn put_summary(
+    summary: &mut [u64],
     answered: u64,
     offset: u64,
     quarters: u64,
@@ -67,8 +67,8 @@ fn put_report(
     day: Day,
     settled: Runs,
 )
-    requires { ⌜ reportPlaces ≤ length (now report) ⌝ }
-    ensures { λ _. ⌜ now (report .exit) ≡ over (listed answered offset quarters used held (refused .count) (refused .first) (day .0) settled) (now (report .entry)) ⌝ }
+    requires { ⌜ summaryPlaces ≤ length (now summary) ⌝ }
+    ensures { λ _. ⌜ now (summary .exit) ≡ over (listed answered offset quarters used held (refused .count) (refused .first) (day .0) settled) (now (summary .entry)) ⌝ }
 {
     let first = flag_number(settled.first);
     let second = flag_number(settled.second);
@@ -84,11 +84,11 @@ fn put_report(
         first,
         second,
     ];
-    put_row(report, 0, &numbers);
+    put_row(summary, 0, &numbers);
 }
 
-// 0, or the number of the first refusal; 35 where the answers are full; 2, and nothing is done, where a report, the points or the versions have fewer
-// places than ten, 2,304 and 2,048. The report tells the calls answered, the offset, Q, the log rows used, the versions held, the calls
+// 0, or the number of the first refusal; 35 where the answers are full; 2, and nothing is done, where a summary, the points or the versions have fewer
+// places than ten, 2,304 and 2,048. The summary tells the calls answered, the offset, Q, the log rows used, the versions held, the calls
 // refused and the first of them, the day, and which runs are settled.
 #[no_mangle]
 pub extern "C" fn emorizugu_replay(
@@ -98,13 +98,13 @@ pub extern "C" fn emorizugu_replay(
     log: &mut [u64],
     series: &mut [u64],
     answers: &mut [u64],
-    report: &mut [u64],
+    summary: &mut [u64],
     points: &mut [u64],
     versions: &mut [u64],
 ) -> u64
-    ensures { λ r. ⌜ Reported (now (file .entry)) (storesOf (now (values .entry)) (now (book .entry)) (now (log .entry))) (now (series .entry)) (now (answers .entry)) (placesOf (now (report .entry)) (now (points .entry)) (now (versions .entry))) r (storesOf (now (values .exit)) (now (book .exit)) (now (log .exit))) (now (series .exit)) (now (answers .exit)) (placesOf (now (report .exit)) (now (points .exit)) (now (versions .exit))) ⌝ }
+    ensures { λ r. ⌜ Summarised (now (file .entry)) (storesOf (now (values .entry)) (now (book .entry)) (now (log .entry))) (now (series .entry)) (now (answers .entry)) (placesOf (now (summary .entry)) (now (points .entry)) (now (versions .entry))) r (storesOf (now (values .exit)) (now (book .exit)) (now (log .exit))) (now (series .exit)) (now (answers .exit)) (placesOf (now (summary .exit)) (now (points .exit)) (now (versions .exit))) ⌝ }
 {
-    if !all_fit(report.len(), points.len(), versions.len()) {
+    if !all_fit(summary.len(), points.len(), versions.len()) {
         return TOO_SHORT;
     }
     let run = replay::replay(file, values, book, log, series, answers);
@@ -116,8 +116,8 @@ pub extern "C" fn emorizugu_replay(
     let refused = refusals_of(answers, run.answered);
     let day = f.day;
     let settled = f.settled;
-    put_report(
-        report,
+    put_summary(
+        summary,
         run.answered as u64,
         offset,
         opening.quarters,

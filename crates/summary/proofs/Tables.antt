@@ -19,7 +19,7 @@ use Rattle.state.specs.declared.VersionRecord.{VersionRecord}
 use Rattle.quantity.specs.Limits.{points}
 use Rattle.checks.specs.Picks.{noPicks, selectedIn, PicksIn}
 use Rattle.checks.specs.declared.PointPicks.{PointPicks}
-use Rattle.report.specs.Table.{rowsTo, pointPlaces, pointRow, versionPlaces, versionRow, refusals, firstRefused}
+use Rattle.summary.specs.Table.{rowsTo, pointPlaces, pointRow, versionPlaces, versionRow, refusals, firstRefused}
 
 -- one row more behind those that stand
 over-more : (new row old : List ℕ) (at k : ℕ) → length new ≡ at → length row ≡ k → splice (over new old) at k row ≡ over (new ++ row) old

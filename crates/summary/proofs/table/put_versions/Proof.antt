@@ -9,10 +9,10 @@ use mathlib.Core.Path.{_≡_, refl}
 use lib.ListN.{length, take}
 use Rattle.quantity.proofs.Lists.{length-of}
 use Rattle.replay.specs.Replay.{over}
-use Rattle.report.specs.Table.{rowsTo, versionRow}
-use Rattle.report.proofs.Tables.{rows-none, rows-more, version-here, all-held}
-use Rattle.report.proofs.table.put_versions.Statement.{statement}
-use Rattle.report.proofs.table.put_versions.Tie as tie
+use Rattle.summary.specs.Table.{rowsTo, versionRow}
+use Rattle.summary.proofs.Tables.{rows-none, rows-more, version-here, all-held}
+use Rattle.summary.proofs.table.put_versions.Statement.{statement}
+use Rattle.summary.proofs.table.put_versions.Tie as tie
 
 abbrev Inv-loop : tie.InvT-loop
 Inv-loop out₀ count versions n i₀ out i = (i ≤ n) × (n ≤ 512) × (length out ≡ length out₀) × (2048 ≤ length out₀) × (length versions ≡ 512) × (take n versions ≡ take count versions) × (out ≡ over (rowsTo i (versionRow (take count versions))) out₀)

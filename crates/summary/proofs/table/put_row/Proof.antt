@@ -2,9 +2,9 @@
 use lib.ListN.{length}
 use borrow.Author.Needs.{needs}
 use Rattle.book.proofs.Rows.{lent, back}
-use Rattle.report.proofs.Tables.{row-put}
-use Rattle.report.proofs.table.put_row.Statement.{statement}
-use Rattle.report.proofs.table.put_row.Tie as tie
+use Rattle.summary.proofs.Tables.{row-put}
+use Rattle.summary.proofs.table.put_row.Statement.{statement}
+use Rattle.summary.proofs.table.put_row.Tie as tie
 
 add-end : tie.Need-add-end
 add-end c = search needs

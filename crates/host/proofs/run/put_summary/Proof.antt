@@ -1,9 +1,9 @@
--- `put_report` meets its contract. Assumes nothing.
+-- `put_summary` meets its contract. Assumes nothing.
 use mathlib.Core.Path.{_∙_}
 use Rattle.book.specs.Row.{splice}
 use borrow.Author.Needs.{needs}
-use Rattle.host.proofs.run.put_report.Statement.{statement}
-use Rattle.host.proofs.run.put_report.Tie as tie
+use Rattle.host.proofs.run.put_summary.Statement.{statement}
+use Rattle.host.proofs.run.put_summary.Tie as tie
 
 flag-number-requires : tie.Need-flag-number-requires
 flag-number-requires c κs = search needs
@@ -24,8 +24,8 @@ returns : tie.Need-returns
 unfolding splice
 returns c = c .before .before .put-row .ensures ∙ rw (c .before .before .before .before .before .before .flag-number .ensures, c .before .before .before .before .before .flag-number2 .ensures)
 
-pub put-report-spec : {M : Type 1} → statement M
-put-report-spec =
+pub put-summary-spec : {M : Type 1} → statement M
+put-summary-spec =
     tie.close
     (tie.spec
     flag-number-requires

@@ -19,7 +19,7 @@ ghost use lib.ListN.{length, take};
 ghost use Rattle.book.specs.Row.{splice};
 ghost use Rattle.replay.specs.Replay.{over};
 ghost use Rattle.checks.specs.Picks.{selectedIn};
-ghost use Rattle.report.specs.Table.{pointsPlaces, versionsPlaces, pointPlaces, pointTable, versionPlaces, versionTable, refusals, firstRefused};
+ghost use Rattle.summary.specs.Table.{pointsPlaces, versionsPlaces, pointPlaces, pointTable, versionPlaces, versionTable, refusals, firstRefused};
 
 // How many numbers a point has.
 const POINT_NUMBERS: usize = 9;

@@ -1,4 +1,4 @@
--- The report of a replay, with its tables. Assumes nothing.
+-- The summary of a replay, with its tables. Assumes nothing.
 use Prim.Native.Nat.{ℕ, suc, _≤_}
 use mathlib.Core.Path.{_≡_, refl, sym, ap, _∙_}
 use mathlib.Core.Bool.{Bool, true, false, _&&_, true≢false}
@@ -18,9 +18,9 @@ use Rattle.replay.specs.Feeding.{toldAs, tells}
 use Rattle.replay.specs.Given.{Given, given, givenIn}
 use Rattle.replay.specs.Replay.{callsFor, toldOf, numbersOf, over, Replays}
 use Rattle.replay.specs.declared.Replayed.{Replayed}
-use Rattle.host.specs.Replay.{endingNumber, endingOffset, reportPlaces, fits, fitting, listed, Places, placesOf, Reported}
-use Rattle.report.specs.Table.{pointsPlaces, versionsPlaces, pointTable, versionTable, refusals, firstRefused}
-use Rattle.report.specs.declared.Refusals.{Refusals}
+use Rattle.host.specs.Replay.{endingNumber, endingOffset, summaryPlaces, fits, fitting, listed, Places, placesOf, Summarised}
+use Rattle.summary.specs.Table.{pointsPlaces, versionsPlaces, pointTable, versionTable, refusals, firstRefused}
+use Rattle.summary.specs.declared.Refusals.{Refusals}
 
 -- places that are enough
 module _ (r p v : ℕ) {b : Bool} (e : b ≡ fits r p v) (t : b ≡ true) where
@@ -28,10 +28,10 @@ module _ (r p v : ℕ) {b : Bool} (e : b ≡ fits r p v) (t : b ≡ true) where
   all = sym e ∙ t
 
   rest : (leb pointsPlaces p && leb versionsPlaces v) ≡ true
-  rest = and-right (leb reportPlaces r) (leb pointsPlaces p && leb versionsPlaces v) all
+  rest = and-right (leb summaryPlaces r) (leb pointsPlaces p && leb versionsPlaces v) all
 
-  pub report-fits : reportPlaces ≤ r
-  report-fits = leb-true reportPlaces r (and-left (leb reportPlaces r) (leb pointsPlaces p && leb versionsPlaces v) all)
+  pub summary-fits : summaryPlaces ≤ r
+  summary-fits = leb-true summaryPlaces r (and-left (leb summaryPlaces r) (leb pointsPlaces p && leb versionsPlaces v) all)
 
   pub points-fit : pointsPlaces ≤ p
   points-fit = leb-true pointsPlaces p (and-left (leb pointsPlaces p) (leb versionsPlaces v) rest)
@@ -50,7 +50,7 @@ answers-told s cs = length-map (plainReplies [] (toldOf s cs)) (λ (r : Reply). 
 
 module _ (file : List ℕ) (s : Stores) (buffer output : List ℕ) where
   -- places that are too few
-  pub too-few : (p : Places) {b : Bool} {number : ℕ} → b ≡ fitting p → b ≡ false → number ≡ 2 → Reported file s buffer output p number s buffer output p
+  pub too-few : (p : Places) {b : Bool} {number : ℕ} → b ≡ fitting p → b ≡ false → number ≡ 2 → Summarised file s buffer output p number s buffer output p
   too-few p {b} e f n =
       record {
         short = λ _. record { answer = n; stores = refl; series = refl; answers = refl; places = refl };
@@ -70,16 +70,16 @@ module _ (file : List ℕ) (s : Stores) (buffer output : List ℕ) where
         let l = numbersOf (plainReplies [] (toldOf s cs)) in
         rw (R .gives .answers) (take-at l (drop (length l) output) (r .answered) (answers-told s cs ∙ sym (R .answered)))
 
-    -- a replay with its report and tables
-    pub reported : (p q : Places) {b : Bool} {number offset : ℕ} {refused : Refusals} → b ≡ fitting p → b ≡ true
+    -- a replay with its summary and tables
+    pub summaryed : (p q : Places) {b : Bool} {number offset : ℕ} {refused : Refusals} → b ≡ fitting p → b ≡ true
         → offset ≡ endingOffset (length file) (r .ending)
         → (refused .count ≡ refusals (take (r .answered) output′)) × (refused .first ≡ firstRefused 1 (take (r .answered) output′))
-        → q .report ≡ over (listed (r .answered) offset (r .desk .frame .opening .quarters) (r .desk .frame .used) (r .desk .frame .count) (refused .count) (refused .first) (r .desk .frame .day .0) (r .desk .frame .settled)) (p .report)
+        → q .summary ≡ over (listed (r .answered) offset (r .desk .frame .opening .quarters) (r .desk .frame .used) (r .desk .frame .count) (refused .count) (refused .first) (r .desk .frame .day .0) (r .desk .frame .settled)) (p .summary)
         → q .points ≡ over (pointTable (r .desk .points) (take (r .desk .frame .count) (r .desk .versions))) (p .points)
         → q .versions ≡ over (versionTable (take (r .desk .frame .count) (r .desk .versions))) (p .versions)
-        → number ≡ endingNumber (r .ending) → Reported file s buffer output p number after buffer′ output′ q
+        → number ≡ endingNumber (r .ending) → Summarised file s buffer output p number after buffer′ output′ q
     unfolding viewIn
-    reported p q e t o f report points versions n =
+    summaryed p q e t o f summary points versions n =
         let held = R .desk .view in
         let quarters = ap (λ (v : View). v .frame .opening .quarters) held in
         let used = ap (λ (v : View). v .frame .used) held in
@@ -92,7 +92,7 @@ module _ (file : List ℕ) (s : Stores) (buffer output : List ℕ) where
           short = λ g. absurd (true≢false (sym t ∙ e ∙ g));
           runs = λ _. record {
             answer = n ∙ ap endingNumber (R .ending);
-            report = report ∙ rw (o, f .0, f .1, answered-are, R .answered, R .ending, quarters, used, count, day, settled);
+            summary = summary ∙ rw (o, f .0, f .1, answered-are, R .answered, R .ending, quarters, used, count, day, settled);
             points = points ∙ rw (ps, vs);
             versions = versions ∙ rw vs;
             gives = R .gives;

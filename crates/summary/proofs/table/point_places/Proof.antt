@@ -1,7 +1,7 @@
 -- `point_places` meets its contract. Assumes nothing.
 use borrow.Author.Needs.{needs}
-use Rattle.report.proofs.table.point_places.Statement.{statement}
-use Rattle.report.proofs.table.point_places.Tie as tie
+use Rattle.summary.proofs.table.point_places.Statement.{statement}
+use Rattle.summary.proofs.table.point_places.Tie as tie
 
 version-of-requires : tie.Need-version-of-requires
 version-of-requires c κs = search needs

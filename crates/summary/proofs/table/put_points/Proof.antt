@@ -7,10 +7,10 @@ use mathlib.Core.Path.{_≡_, refl}
 use lib.ListN.{length, take}
 use Rattle.quantity.proofs.Lists.{length-of}
 use Rattle.replay.specs.Replay.{over}
-use Rattle.report.specs.Table.{rowsTo}
-use Rattle.report.proofs.Tables.{rows-none, rows-more, pickedRow, picked-wide, picked-all}
-use Rattle.report.proofs.table.put_points.Statement.{statement}
-use Rattle.report.proofs.table.put_points.Tie as tie
+use Rattle.summary.specs.Table.{rowsTo}
+use Rattle.summary.proofs.Tables.{rows-none, rows-more, pickedRow, picked-wide, picked-all}
+use Rattle.summary.proofs.table.put_points.Statement.{statement}
+use Rattle.summary.proofs.table.put_points.Tie as tie
 
 abbrev Inv-loop : tie.InvT-loop
 Inv-loop out₀ count points table i₀ out i = (i ≤ 256) × (length out ≡ length out₀) × (2304 ≤ length out₀) × (length points ≡ 256) × (length table ≡ 256) × (out ≡ over (rowsTo i (pickedRow points table)) out₀)

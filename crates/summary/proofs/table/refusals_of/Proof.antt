@@ -4,10 +4,10 @@ use native.Mathlib.Omega.{arith}
 use Prim.Native.Nat.{_+_, _≤_}
 use mathlib.Core.Path.{_≡_}
 use lib.ListN.{length, take, drop}
-use Rattle.report.specs.Table.{refusals, firstRefused}
-use Rattle.report.proofs.Tables.{none-refused, none-first, refused-here, accepted-here}
-use Rattle.report.proofs.table.refusals_of.Statement.{statement}
-use Rattle.report.proofs.table.refusals_of.Tie as tie
+use Rattle.summary.specs.Table.{refusals, firstRefused}
+use Rattle.summary.proofs.Tables.{none-refused, none-first, refused-here, accepted-here}
+use Rattle.summary.proofs.table.refusals_of.Statement.{statement}
+use Rattle.summary.proofs.table.refusals_of.Tie as tie
 
 abbrev Inv-loop : tie.InvT-loop
 Inv-loop answers n count₀ first₀ i₀ count first i = (i ≤ n) × (n ≤ length answers) × (count + i ≤ n) × (count ≡ refusals (drop i (take n answers))) × (first ≡ firstRefused (i + 1) (drop i (take n answers)))

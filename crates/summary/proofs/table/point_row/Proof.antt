@@ -1,8 +1,8 @@
 -- `point_row` meets its contract. Assumes nothing.
 use mathlib.Core.Path.{_∙_}
 use borrow.Author.Needs.{needs}
-use Rattle.report.proofs.table.point_row.Statement.{statement}
-use Rattle.report.proofs.table.point_row.Tie as tie
+use Rattle.summary.proofs.table.point_row.Statement.{statement}
+use Rattle.summary.proofs.table.point_row.Tie as tie
 
 selected-in-requires : tie.Need-selected-in-requires
 selected-in-requires c κs = search needs
