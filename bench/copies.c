@@ -10,7 +10,8 @@
 
 #include "emorizugu.h"
 
-enum { LARGE = 1024, STATE = 10246, QUARTERS = 2, VALUES = 1024, BOOK = EMORIZUGU_BOOK_ROWS * QUARTERS, LOG = 64, MOST = 64 };
+enum { LARGE = 1024, STATE = 10254, QUARTERS = 2, VALUES = 1024, BOOK = EMORIZUGU_BOOK_ROWS * QUARTERS, LOG = 64, MOST = 64 };
+enum { SCHEDULES = EMORIZUGU_GROUPS * QUARTERS };
 
 void *__real_memcpy(void *to, const void *from, size_t n);
 void *__wrap_memcpy(void *to, const void *from, size_t n);
@@ -54,11 +55,12 @@ static void put_number(uint64_t number) {
 }
 
 static uint64_t last_answer(void) {
-    static uint64_t values[VALUES], book[BOOK], log[LOG], series[EMORIZUGU_QUARTERS], answers[MOST];
+    static uint64_t values[VALUES], book[BOOK], log[LOG], schedules[SCHEDULES], series[EMORIZUGU_QUARTERS], answers[MOST];
     uint64_t summary[EMORIZUGU_SUMMARY];
     static uint64_t points[EMORIZUGU_POINTS_LENGTH], versions[EMORIZUGU_VERSIONS_LENGTH];
-    emorizugu_replay(file, length, values, VALUES, book, BOOK, log, LOG, series, EMORIZUGU_QUARTERS, answers, MOST,
-                     summary, EMORIZUGU_SUMMARY, points, EMORIZUGU_POINTS_LENGTH, versions, EMORIZUGU_VERSIONS_LENGTH);
+    emorizugu_replay(file, length, values, VALUES, book, BOOK, log, LOG, schedules, SCHEDULES, series, EMORIZUGU_QUARTERS,
+                     answers, MOST, summary, EMORIZUGU_SUMMARY, points, EMORIZUGU_POINTS_LENGTH, versions,
+                     EMORIZUGU_VERSIONS_LENGTH);
     return summary[EMORIZUGU_ANSWERED] == 0 ? 0 : answers[summary[EMORIZUGU_ANSWERED] - 1];
 }
 

@@ -1,5 +1,5 @@
 /*
- * Whole files in memory, and what the replay of one is lent, for the example programs.
+ * Whole files in memory, what the replay of one is lent, and numbers, for the example programs.
  */
 #ifndef FILES_H
 #define FILES_H
@@ -27,5 +27,11 @@ int lend(const char *program, struct emorizugu_lent *r, const struct file *messa
 
 /* Frees the stores that were lent. */
 void release(struct emorizugu_lent *r);
+
+/* Reads a decimal number of digits alone; says what is wrong where it is none or has more than 64 bits. */
+int read_number(const char *program, const char *word, const char *what, uint64_t *number);
+
+/* A word in two's complement as a signed number. */
+int64_t signed_reading(uint64_t word);
 
 #endif

@@ -22,24 +22,6 @@
 
 enum { READ = 0, REFUSED = 1, UNREADABLE = 2 };
 
-/* Reads a decimal number of digits alone; says what is wrong where it is none or has more than 64 bits. */
-static int read_number(const char *word, const char *what, uint64_t *number) {
-    uint64_t value = 0;
-    const char *at = word;
-    while (*at >= '0' && *at <= '9') {
-        uint64_t digit = (uint64_t)(*at - '0');
-        if (value > (UINT64_MAX - digit) / 10)
-            break;
-        value = 10 * value + digit;
-        at++;
-    }
-    *number = value;
-    if (at != word && *at == '\0')
-        return 1;
-    fprintf(stderr, "host: %s is no number from 0 to 2^64 - 1: \"%s\"\n", what, word);
-    return 0;
-}
-
 static const char *cause(uint64_t refusal) {
     switch (refusal) {
     case EMORIZUGU_CUT:
@@ -100,11 +82,6 @@ static int print_selections(const struct file *message) {
     return lent;
 }
 
-/* A word in two's complement as a signed number. */
-static int64_t signed_reading(uint64_t word) {
-    return word <= INT64_MAX ? (int64_t)word : -(int64_t)(UINT64_MAX - word) - 1;
-}
-
 /* Adds a figure to a sum. 0 where the result has more than 64 bits, and the sum stays. */
 static int add(int64_t *sum, int64_t figure) {
     if (figure > 0 ? *sum > INT64_MAX - figure : *sum < INT64_MIN - figure)
@@ -155,8 +132,8 @@ int main(int argc, char **argv) {
         fprintf(stderr, "usage: host MESSAGE-FILE BOOK-FILE QUARTERS RUN GROUP\n");
         return UNREADABLE;
     }
-    if (read_number(argv[3], "QUARTERS", &quarters) && read_number(argv[4], "RUN", &run)
-        && read_number(argv[5], "GROUP", &group) && read_file("host", argv[1], &message)
+    if (read_number("host", argv[3], "QUARTERS", &quarters) && read_number("host", argv[4], "RUN", &run)
+        && read_number("host", argv[5], "GROUP", &group) && read_file("host", argv[1], &message)
         && read_file("host", argv[2], &book) && has_month(argv[2], &book, quarters, run, group)) {
         status = print_verdict(argv[1], &message);
         if (status == READ && !print_selections(&message))

@@ -15,12 +15,13 @@ int main(int argc, char **argv) {
     std::vector<char> file{std::istreambuf_iterator<char>(in), {}};
     std::vector<uint64_t> values(EMORIZUGU_VALUES_LENGTH(EMORIZUGU_QUARTERS, EMORIZUGU_VERSIONS)),
         book(EMORIZUGU_BOOK_LENGTH(EMORIZUGU_QUARTERS)), log(EMORIZUGU_LOG_LENGTH(EMORIZUGU_VERSIONS)),
-        series(EMORIZUGU_SERIES_LENGTH), answers(EMORIZUGU_ANSWERS_LENGTH(file.size()));
+        schedules(EMORIZUGU_SCHEDULES_LENGTH(EMORIZUGU_QUARTERS)), series(EMORIZUGU_SERIES_LENGTH),
+        answers(EMORIZUGU_ANSWERS_LENGTH(file.size()));
     static emorizugu_lent r{};
     r.file = reinterpret_cast<const uint8_t *>(file.data()), r.length = file.size();
     r.values = values.data(), r.values_length = values.size(), r.book = book.data(), r.book_length = book.size();
-    r.log = log.data(), r.log_length = log.size(), r.series = series.data(), r.series_length = series.size();
-    r.answers = answers.data(), r.answers_length = answers.size();
+    r.log = log.data(), r.log_length = log.size(), r.schedules = schedules.data(), r.schedules_length = schedules.size();
+    r.series = series.data(), r.series_length = series.size(), r.answers = answers.data(), r.answers_length = answers.size();
     uint64_t refusal = emorizugu_run(&r), quarters = r.summary[EMORIZUGU_OPENED];
     std::printf("%d refused, ending %d\n", int(r.summary[EMORIZUGU_REFUSED]), int(refusal));
     for (uint64_t group = 1; group <= EMORIZUGU_GROUPS; group++)

@@ -3,9 +3,10 @@
 
 Message files: `example.msg` is the one that document 01 writes out, `month.msg` its sample month, packed from
 `month.calls`; `corrected.msg` has corrections with run 1 settled, `settled.msg` the same with both runs settled; the others
-are empty or damaged, and each is refused for one cause. Books, both of two quarter hours:
+are empty or damaged, and each is refused for one cause. Books and schedules, all of two quarter hours:
 `month.book` has the figures of document 01's sample month, `edges.book` figures at both ends of the 64-bit range, and
-`short.book` lacks its last byte. `july.csv` has the series of `july.calls`.
+`short.book` lacks its last byte; `month.lodged` has what some groups of the sample month planned, `edges.lodged`
+numbers beside those of `edges.book`, and `short.lodged` lacks its last byte. `july.csv` has the series of `july.calls`.
 """
 
 import pathlib
@@ -93,17 +94,48 @@ EDGES = {
 }
 
 
-def book(run_1, run_2):
-    """A book's bytes: two runs of 81 rows, eight bytes a figure, lowest first, two's complement."""
+# What groups planned: 2 more than it took, 4 and 5 as much more as less, 6 what it took but for a watt-hour; 1 nothing.
+PLANNED = {
+    group(2): (40000, 30000),
+    group(4): (299, -99),
+    group(5): (49000, 46000),
+    group(6): (8500, 8201),
+}
+
+# Group 2 is neither over nor under: 0 against -2^63, 2^63 - 1 against -1. The sums of 1 and 64 have 64 bits.
+EDGES_PLANNED = {
+    group(2): (0, MOST),
+    group(64): (MOST - 5, 3),
+}
+
+
+def numbers(stores, rows):
+    """The bytes of rows of two quarter hours: eight bytes a number, lowest first, two's complement."""
     nothing = (0,) * QUARTERS
-    rows = [run.get(row, nothing) for run in (run_1, run_2) for row in range(81)]
-    return b"".join(struct.pack("<q", figure) for row in rows for figure in row)
+    rows = [store.get(row, nothing) for store in stores for row in range(rows)]
+    return b"".join(struct.pack("<q", number) for row in rows for number in row)
+
+
+def book(run_1, run_2):
+    """A book's bytes: two runs of 81 rows."""
+    return numbers((run_1, run_2), 81)
+
+
+def schedules(planned):
+    """The bytes of schedules: a row a group."""
+    return numbers((planned,), 64)
 
 
 BOOKS = {
     "month.book": book(MONTH, MONTH),
     "edges.book": book({}, EDGES),
     "short.book": book(MONTH, MONTH)[:-1],
+}
+
+SCHEDULES = {
+    "month.lodged": schedules(PLANNED),
+    "edges.lodged": schedules(EDGES_PLANNED),
+    "short.lodged": schedules(PLANNED)[:-1],
 }
 
 
@@ -156,7 +188,7 @@ def table():
 
 def main():
     folder = pathlib.Path(sys.argv[1]) if len(sys.argv) > 1 else OWN
-    for name, content in {**MESSAGES, **BOOKS, "july.csv": table()}.items():
+    for name, content in {**MESSAGES, **BOOKS, **SCHEDULES, "july.csv": table()}.items():
         (folder / name).write_bytes(content)
 
 

@@ -25,7 +25,7 @@ extern "C" {
 #endif
 
 /* The version of these entries. It rises with every change that a host notices; emorizugu_version() is the library's. */
-#define EMORIZUGU_VERSION 5
+#define EMORIZUGU_VERSION 6
 
 /* Answers: accepted, and the causes of a refusal in the order in which they are checked. docs/CAUSES.md has them in words. */
 #define EMORIZUGU_ACCEPTED         0
@@ -36,7 +36,7 @@ extern "C" {
 #define EMORIZUGU_BAD_OPENING      4   /* quarter hours, deadlines, groups or lengths not allowed */
 #define EMORIZUGU_PAST_DAY         5   /* the day lies before the desk's day */
 #define EMORIZUGU_AFTER_CORRECTION 11  /* the day lies behind the correction deadline */
-#define EMORIZUGU_AFTER_CLEARING   26  /* assign: the day lies behind the clearing deadline */
+#define EMORIZUGU_AFTER_CLEARING   26  /* assign, lodge: the day lies behind the clearing deadline */
 #define EMORIZUGU_POINT_ACTIVE     21  /* activate: the point is active */
 #define EMORIZUGU_SAME_SERIES      22  /* activate: an active point has the same series */
 #define EMORIZUGU_NOT_ACTIVE       12  /* the point is not active */
@@ -59,11 +59,12 @@ extern "C" {
 #define EMORIZUGU_NO_ROOM          35  /* file: a lent buffer, output or answers too short */
 #define EMORIZUGU_NO_DATE          36  /* calendar: no such month or date of 2020 to 2059, or no number from 0 to 400 */
 
-/* Ranges: quarter hours of a month, runs, balance groups, each counted from 1; and the bytes of a book a quarter hour. */
+/* Ranges: quarter hours of a month, runs, balance groups, each counted from 1; bytes a quarter hour of a book, of schedules. */
 #define EMORIZUGU_QUARTERS 2980
 #define EMORIZUGU_RUNS 2
 #define EMORIZUGU_GROUPS 64
 #define EMORIZUGU_BOOK_BYTES 1296
+#define EMORIZUGU_SCHEDULE_BYTES 512
 
 /* Figures of a book a quarter hour; the versions that a desk holds at most, and its points. */
 #define EMORIZUGU_BOOK_ROWS 162
@@ -77,6 +78,7 @@ extern "C" {
 #define EMORIZUGU_VALUES_LENGTH(quarters, versions) ((size_t)(quarters) * (size_t)(versions))
 #define EMORIZUGU_BOOK_LENGTH(quarters) (EMORIZUGU_BOOK_ROWS * (size_t)(quarters))
 #define EMORIZUGU_LOG_LENGTH(versions) (8 * (size_t)(versions))
+#define EMORIZUGU_SCHEDULES_LENGTH(quarters) (EMORIZUGU_GROUPS * (size_t)(quarters))
 #define EMORIZUGU_SERIES_LENGTH EMORIZUGU_QUARTERS
 #define EMORIZUGU_ANSWERS_LENGTH(file_length) ((file_length) / 3 + 1)
 
@@ -95,7 +97,7 @@ enum {
     EMORIZUGU_DAY,       /* the desk's day */
     EMORIZUGU_SETTLED_1, /* 1 where run 1 is settled, else 0 */
     EMORIZUGU_SETTLED_2, /* 1 where run 2 is settled, else 0 */
-    EMORIZUGU_SUMMARY     /* how many places these are */
+    EMORIZUGU_SUMMARY    /* how many places these are */
 };
 
 /*
@@ -165,14 +167,41 @@ uint64_t emorizugu_figure(const uint8_t *book, size_t length, uint64_t quarters,
                           uint64_t quarter);
 
 /*
+ * Whether there is a report of a run and a group: 3 for a number outside its range (quarters 1 to 2,980, run 1 to 2,
+ * group 1 to 64), else 2 for a book of another length than 1,296 x quarters bytes or schedules of another length than
+ * 512 x quarters bytes, else 0.
+ *
+ * A schedule is what a group planned to take, an energy for each quarter hour. Schedules have eight bytes to an energy, as
+ * a book has to a figure; group g and quarter hour q stand at energy (g - 1) x quarters + q - 1. A group that lodged
+ * nothing has 0 there. The schedules of a replay are 0, since message files carry no lodgings: a host writes those that
+ * were lodged last, by the clearing deadline, each energy within 10^12 either way. The store of a replay is such
+ * schedules as it stands, as its book is: (const uint8_t *)schedules, 8 x 64 x quarters.
+ */
+uint64_t emorizugu_report_refusal(const uint8_t *book, size_t length, const uint8_t *schedules, size_t schedules_length,
+                                  uint64_t quarters, uint64_t run, uint64_t group);
+
+/*
+ * The report of a run and a group: two sums over the month, in watt-hours. In a quarter hour the surplus is the larger of 0
+ * and the schedule minus the figure, the shortfall the larger of 0 and the figure minus the schedule; the one does not
+ * cancel the other. Each is a 64-bit word, below 2^63 where book and schedules are within their limits; elsewhere
+ * differences and sums wrap at 64 bits. 0 where emorizugu_report_refusal is not 0; since 0 is also a sum, ask for the
+ * refusal first.
+ */
+uint64_t emorizugu_surplus(const uint8_t *book, size_t length, const uint8_t *schedules, size_t schedules_length,
+                           uint64_t quarters, uint64_t run, uint64_t group);
+uint64_t emorizugu_shortfall(const uint8_t *book, size_t length, const uint8_t *schedules, size_t schedules_length,
+                             uint64_t quarters, uint64_t run, uint64_t group);
+
+/*
  * A whole message file through a fresh desk: call after call is read and handed to the desk, until the file ends, is
  * refused, or the answers are full.
  *
- * values, book, log: the desk's stores, of any lengths and with anything in them. The opening takes values and log as
- * they are long, and of the book the first 162 x Q figures; a Q that the book cannot hold is refused with 4, and so is
- * a log whose length is not a multiple of 4. Afterwards the book has its figures, each a 64-bit word in two's
- * complement, at the places that emorizugu_figure_refusal names; the log four numbers a row: day, point, run, new
- * version. What the desk did not use is as it was.
+ * values, book, log, schedules: the desk's stores, of any lengths and with anything in them. The opening takes values and
+ * log as they are long, of the book the first 162 x Q figures and of the schedules the first 64 x Q energies; a Q that
+ * one of these cannot hold is refused with 4, and so is a log whose length is not a multiple of 4. Afterwards the book has
+ * its figures, each a 64-bit word in two's complement, at the places that emorizugu_figure_refusal names; the log four
+ * numbers a row: day, point, run, new version; the schedules 0 at the places that emorizugu_report_refusal names. What
+ * the desk did not use is as it was.
  * series: room for a submission's energies. answers: answers[i] is that of call i + 1: 0, or the number of the cause
  * that the desk refuses it for. summary: EMORIZUGU_SUMMARY places. points: EMORIZUGU_POINTS_LENGTH, a row a point, with what
  * each run selects and its status. versions: EMORIZUGU_VERSIONS_LENGTH, a row a version.
@@ -183,9 +212,10 @@ uint64_t emorizugu_figure(const uint8_t *book, size_t length, uint64_t quarters,
  * refused: the summary says how many, and which was the first.
  */
 uint64_t emorizugu_replay(const uint8_t *file, size_t length, uint64_t *values, size_t values_length, uint64_t *book,
-                          size_t book_length, uint64_t *log, size_t log_length, uint64_t *series, size_t series_length,
-                          uint64_t *answers, size_t answers_length, uint64_t *summary, size_t summary_length,
-                          uint64_t *points, size_t points_length, uint64_t *versions, size_t versions_length);
+                          size_t book_length, uint64_t *log, size_t log_length, uint64_t *schedules,
+                          size_t schedules_length, uint64_t *series, size_t series_length, uint64_t *answers,
+                          size_t answers_length, uint64_t *summary, size_t summary_length, uint64_t *points,
+                          size_t points_length, uint64_t *versions, size_t versions_length);
 
 /* What a replay is lent, by name. */
 struct emorizugu_lent {
@@ -197,6 +227,8 @@ struct emorizugu_lent {
     size_t book_length;
     uint64_t *log;
     size_t log_length;
+    uint64_t *schedules;
+    size_t schedules_length;
     uint64_t *series;
     size_t series_length;
     uint64_t *answers;
@@ -209,9 +241,9 @@ struct emorizugu_lent {
 /* emorizugu_replay with what is lent by name. */
 static inline uint64_t emorizugu_run(struct emorizugu_lent *r) {
     return emorizugu_replay(r->file, r->length, r->values, r->values_length, r->book, r->book_length, r->log,
-                            r->log_length, r->series, r->series_length, r->answers, r->answers_length, r->summary,
-                            EMORIZUGU_SUMMARY, r->points, EMORIZUGU_POINTS_LENGTH, r->versions,
-                            EMORIZUGU_VERSIONS_LENGTH);
+                            r->log_length, r->schedules, r->schedules_length, r->series, r->series_length, r->answers,
+                            r->answers_length, r->summary, EMORIZUGU_SUMMARY, r->points, EMORIZUGU_POINTS_LENGTH,
+                            r->versions, EMORIZUGU_VERSIONS_LENGTH);
 }
 
 /*

@@ -1,6 +1,6 @@
 #!/usr/bin/env bash
-# Tests of ./desk: a clerk's mistakes with the words for them, text and message files, days and dates, lists and their forms, the page, streams and
-# terminals, a month of 2,976 quarter hours; the table of causes against the header and the library.
+# Tests of ./desk: a clerk's mistakes with the words for them, text and message files, surplus and shortfall by schedules, days and dates, lists and their
+# forms, the page, streams and terminals, a month of 2,976 quarter hours; the table of causes against the header and the library.
 # Writes under target/ only. Builds the program first where it is missing or old.
 set -u
 cd "$(dirname "$0")/.." || exit 2
@@ -700,6 +700,359 @@ END
     has 'print of a damaged file' 1 '^# refused with 34 at offset 29: a submission counts more than 2,980 energies' ./desk print examples/count.msg
 }
 
+# ---- surplus and shortfall
+
+# A month of three quarter hours. Run 1 has the first versions, run 2 the second ones of points 1 and 4; point 3 is no exchange with the outside, and what
+# point 5 has is check data. Figures by hand, in run 1 and in run 2:
+#     group 1   35 125 -135   20 165 -125   delta of area 1: point 1 less point 3 less point 4
+#     group 2   15  25   35   15  25   35   delta of area 2: point 2 and point 3
+#     group 4   -7   8   -9   -7   8   -9   delta of T: 0 less point 6
+#     group 5   60  70   80   65  60   80
+#     group 6    7  -8    9    7  -8    9
+# The outside exchange is 110 220 -20, 310 in all, and 100 250 -10, 340 in all. Schedules are 20, 218, 8 and 2, 248 in all.
+planned_month() {
+    cat >"$work/planned.calls" <<END
+open quarters=3 first=10 clearing=30 correction=150 T=4 1=1 2=2 others=3
+activate point=1 kind=exchange area=1 partner=outside day=0
+activate point=2 kind=exchange area=2 partner=outside day=0
+activate point=3 kind=exchange area=2 partner=1 day=0
+activate point=4 kind=group-sum area=1 partner=5 day=0
+activate point=5 kind=exchange area=3 partner=outside day=0
+activate point=6 kind=operator-sum area=T partner=6 day=0
+submit point=1 version=1 day=2 energies=100,200,-50
+submit point=2 version=1 day=2 energies=10,20,30
+submit point=3 version=1 day=2 energies=5,5,5
+submit point=4 version=1 day=2 energies=60,70,80
+submit point=6 version=1 day=2 energies=7,-8,9
+submit point=1 version=2 day=12 energies=90,230,-40
+submit point=4 version=2 day=12 energies=65,60,80
+submit point=5 version=1 day=12 energies=1000,1000,1000
+notice point=1 version=2 verdict=positive day=31
+notice point=4 version=2 verdict=positive day=31
+END
+    cat >"$work/planned.schedules" <<END
+# What was lodged last, by day 30.
+lodge group=5 energies=1,1,1  # replaced below
+lodge group=9 energies=-5,0,7
+
+	lodge  group=1	unit=Wh  energies=30,130,-140
+lodge group=5 energies=63,65,90
+lodge group=6 energies=7,-8,9
+END
+    # The same for the scripts that read energies on their lines.
+    sed 's/^	lodge  group=1	unit=Wh  /lodge group=1 /' "$work/planned.schedules" >"$work/plain.schedules"
+}
+
+reports() {
+    local month=$work/planned.calls plans=$work/planned.schedules
+    planned_month
+    reports_by_hand "$month" "$plans"
+    picked_reports "$month" "$plans"
+    holds 'report: the same rows in each form' python3 tests/forms.py ./desk "$month" --schedules "$work/plain.schedules"
+    holds 'report: the same rows in each form, of a group, with dates' python3 tests/forms.py ./desk "$month" --schedules "$work/plain.schedules" --group 4 --month 2026-07
+    planned_pages "$month" "$plans"
+    other_plans "$month" "$plans"
+    edge_plans "$month" "$plans"
+    bad_schedules "$month"
+    no_schedules
+    july_reports
+    large_sums
+    wrong_reports "$month" "$plans"
+}
+
+reports_by_hand() {
+    # Group 5 of run 1 is 3, -5 and 10 apart: 13 over and 5 under. Groups 2 and 4 lodged nothing; group 9 has no figure; group 6 took what it planned.
+    expect 'report: surplus and shortfall by hand, and both sides of the sum' 0 ./desk report "$1" "$2" <<END
+run  group  lodged                schedule                  figure                 surplus               shortfall
+  1      1  yes                         20                      25                       5                      10
+  1      2  no                           0                      75                       0                      75
+  1      4  no                           0                      -8                      16                       8
+  1      5  yes                        218                     210                      13                       5
+  1      6  yes                          8                       8                       0                       0
+  1      9  yes                          2                       0                       7                       5
+  2      1  yes                         20                      60                      10                      50
+  2      2  no                           0                      75                       0                      75
+  2      4  no                           0                      -8                      16                       8
+  2      5  yes                        218                     205                      15                       2
+  2      6  yes                          8                       8                       0                       0
+  2      9  yes                          2                       0                       7                       5
+
+over all groups, Wh                                  run 1                     run 2
+surplus less shortfall                                 -62                       -92
+schedules less outside exchange                        -62                       -92
+    schedules                                          248                       248
+    outside exchange                                   310                       340
+both sides are equal in run 1 and in run 2
+END
+    cp "$work/out" "$work/planned"
+}
+
+# A run and a group picked, in each form. A group that is asked for has its row, whatever it has; both sides are those over all groups.
+picked_reports() {
+    expect 'report: one run as csv' 0 ./desk report "$1" "$2" --run 2 --csv <<END
+run,group,lodged,schedule,figure,surplus,shortfall
+2,1,yes,20,60,10,50
+2,2,no,0,75,0,75
+2,4,no,0,-8,16,8
+2,5,yes,218,205,15,2
+2,6,yes,8,8,0,0
+2,9,yes,2,0,7,5
+END
+    expect 'report: one group as json' 0 ./desk report "$1" "$2" --group 5 --json <<END
+[
+{"run":1,"group":5,"lodged":"yes","schedule":218,"figure":210,"surplus":13,"shortfall":5},
+{"run":2,"group":5,"lodged":"yes","schedule":218,"figure":205,"surplus":15,"shortfall":2}
+]
+END
+    expect 'report: a group without schedule and figure' 0 ./desk report "$1" "$2" --group=64 --run=1 <<END
+run  group  lodged                schedule                  figure                 surplus               shortfall
+  1     64  no                           0                       0                       0                       0
+
+over all groups, Wh                                  run 1
+surplus less shortfall                                 -62
+schedules less outside exchange                        -62
+    schedules                                          248
+    outside exchange                                   310
+both sides are equal in run 1 and in run 2
+END
+    ./desk report "$1" "$2" --all --csv | sed 1d >"$work/all"
+    holds 'report: all groups' cmp <(cut -d, -f 1,2 "$work/all") <(seq -f '1,%.0f' 64 && seq -f '2,%.0f' 64)
+    holds 'report: a group never lodged, without a figure' test "$(grep -cx '[12],[0-9]*,no,0,0,0,0' "$work/all")" -eq $((2 * (64 - 6)))
+    has 'report: one file' 2 'desk report takes two files, a month and its schedules: desk report month.calls month.schedules$' ./desk report "$1"
+    has 'report: both from standard input' 2 'the month and its schedules cannot both be standard input$' ./desk report - -
+}
+
+# The page has its part on them where schedules are given, and none without.
+planned_pages() {
+    page_of planned "$1" "$work/plain.schedules"
+    page_script planned "$1" "$work/plain.schedules"
+    holds 'page: the sums of a group' grep -qxF '<tr data-group="5"><td data-n="5">5</td><td class="word">yes</td><td data-n="218">218</td><td data-n="13">13</td><td data-n="5">5</td><td data-n="15">15</td><td data-n="2">2</td></tr>' "$work/planned.html"
+    holds 'page: a group never lodged' grep -qxF '<tr data-group="4"><td data-n="4">4</td><td class="word">no</td><td data-n="0">0</td><td data-n="16">16</td><td data-n="8">8</td><td data-n="16">16</td><td data-n="8">8</td></tr>' "$work/planned.html"
+    holds 'page: both sides of the sum' grep -qxF '<p>run 2, over all groups: surplus less shortfall is -92&nbsp;Wh; schedules, 248&nbsp;Wh, less outside exchange, 340&nbsp;Wh, is -92&nbsp;Wh.</p>' "$work/planned.html"
+    holds 'page: they are equal' grep -qxF '<p class="good">Both sides are equal in each run.</p>' "$work/planned.html"
+    page_of unplanned "$1"
+    page_script unplanned "$1"
+    holds 'page: no such part without schedules' sh -c "! grep -qE 'Surplus and shortfall|id=\"report\"|>schedule<' '$work/unplanned.html'"
+    cp "$2" "$work/{{rows}}<&.schedules"
+    has 'page: schedules whose name has marks and tags' 0 'by the schedules of .*/{{rows}}&lt;&amp;\.schedules\. In a quarter hour' \
+        ./desk page "$1" --schedules="$work/{{rows}}<&.schedules"
+    has 'page: schedules without a name' 2 '--schedules takes a file$' ./desk page "$1" --schedules
+    has 'page: month and schedules from standard input' 2 'the month and its schedules cannot both be standard input$' ./desk page - --schedules -
+}
+
+# The same month and schedules in other forms.
+other_plans() {
+    ./desk pack "$1" -o "$work/planned.msg"
+    holds 'report: a message file' sh -c "./desk report '$work/planned.msg' '$2' | cmp - '$work/planned'"
+    holds 'report: the month by a pipe' sh -c "cat '$1' | ./desk report - '$2' | cmp - '$work/planned'"
+    holds 'report: the schedules by a pipe' sh -c "cat '$2' | ./desk report '$1' - | cmp - '$work/planned'"
+    # Files are looked up beside the text.
+    mkdir -p "$work/plans"
+    printf -- '-5\n0\n7\n' >"$work/plans/nine.csv"
+    printf '%s\n' 'time;one;five' '00:00;0.03;0.063' '00:15;0.130;0.065' '00:30;-0.14;0.09' >"$work/plans/table.csv"
+    cat >"$work/plans/files.schedules" <<END
+lodge group=1 unit=kWh energies=@table.csv:one
+lodge energies=@table.csv:five group=5 unit=kWh
+lodge group=6 energies=7,-8,9
+lodge group=9 energies=@nine.csv
+END
+    holds 'report: schedules of files' sh -c "./desk report '$1' '$work/plans/files.schedules' | cmp - '$work/planned'"
+}
+
+# The largest energies; a month that is refused in part; nothing lodged.
+edge_plans() {
+    local energies=1000000000000,-1000000000000,999999999999
+    expect 'report: the largest energies' 0 ./desk report "$1" <(echo "lodge group=64 energies=$energies" && echo 'lodge group=63 unit=kWh energies=1000000000,-1000000000.000,0') --run 1 --csv <<END
+run,group,lodged,schedule,figure,surplus,shortfall
+1,1,no,0,25,135,160
+1,2,no,0,75,0,75
+1,4,no,0,-8,16,8
+1,5,no,0,210,0,210
+1,6,no,0,8,8,16
+1,63,yes,0,0,1000000000000,1000000000000
+1,64,yes,999999999999,0,1999999999999,1000000000000
+END
+    { cat "$1" && echo 'settle run=1 day=30'; } >"$work/part.calls"
+    expect 'report: a month that is refused in part' 1 ./desk report "$work/part.calls" "$2" --run 1 --group 9 --csv <<END
+run,group,lodged,schedule,figure,surplus,shortfall
+1,9,yes,2,0,7,5
+! desk: $work/part.calls: 1 of 18 calls were refused; \`desk run\` says which and why
+END
+    echo '# nothing yet' >"$work/none.schedules"
+    expect 'report: nothing lodged' 0 ./desk report "$1" "$work/none.schedules" --run 2 <<END
+run  group  lodged                schedule                  figure                 surplus               shortfall
+  2      1  no                           0                      60                     125                     185
+  2      2  no                           0                      75                       0                      75
+  2      4  no                           0                      -8                      16                       8
+  2      5  no                           0                     205                       0                     205
+  2      6  no                           0                       8                       8                      16
+
+over all groups, Wh                                  run 2
+surplus less shortfall                                -340
+schedules less outside exchange                       -340
+    schedules                                            0
+    outside exchange                                   340
+both sides are equal in run 1 and in run 2
+! desk: $work/none.schedules: has no schedule; each is 0
+END
+}
+
+# unlodged WORDS LINE: between two schedules that are fine a line that is not; nothing is reported.
+unlodged() {
+    printf '%s\n' 'lodge group=1 energies=1,2,3  # fine' "$2" 'lodge group=2 energies=1,2,3' >"$work/bad.schedules"
+    expect "schedules: $1" 2 ./desk report "$work/planned.calls" "$work/bad.schedules" <<END
+! desk: $work/bad.schedules: line 2: $1
+END
+}
+
+bad_schedules() {
+    local beyond='an energy is outside -1000000000000 to 1000000000000, in watt-hours'
+    unlodged "group is outside 1 to 64: '0'" 'lodge group=0 energies=1,2,3'
+    unlodged "group is outside 1 to 64: '65'" 'lodge group=65 energies=1,2,3'
+    unlodged "group is outside 1 to 64: '-1'" 'lodge group=-1 energies=1,2,3'
+    unlodged "group is outside 1 to 64: '99999999999999999999999999999999..'" "lodge group=$(printf '%050d' 0 | tr 0 9) energies=1,2,3"
+    unlodged "group is no whole number: 'five'" 'lodge group=five energies=1,2,3'
+    unlodged '2 energies, and the month has 3 quarter hours' 'lodge group=5 energies=1,2'
+    unlodged '4 energies, and the month has 3 quarter hours' 'lodge group=5 energies=1,2,3,4'
+    unlodged '0 energies, and the month has 3 quarter hours' 'lodge group=5 energies=none'
+    unlodged '2981 energies, and the month has 3 quarter hours' "lodge group=5 energies=$(seq -s, 2981)"
+    unlodged "$beyond: '1000000000001'" 'lodge group=5 energies=1,1000000000001,3'
+    unlodged "$beyond: '-1000000000001'" 'lodge group=5 energies=1,2,-1000000000001'
+    unlodged "$beyond: '9223372036854775808'" 'lodge group=5 energies=1,9223372036854775808,3'
+    unlodged "$beyond: '1000000000.001'" 'lodge group=5 unit=kWh energies=1,2,1000000000.001'
+    unlodged "an energy is no whole number: '1.5'" 'lodge group=5 energies=1.5,2,3'
+    unlodged "an energy in kWh is digits with up to three decimals behind a point: '1.5555'" 'lodge group=5 unit=kWh energies=1.5555,2,3'
+    unlodged "unit is Wh or kWh: 'MWh'" 'lodge group=5 unit=MWh energies=1,2,3'
+    unlodged 'lodge lacks energies' 'lodge group=5'
+    unlodged 'lodge lacks group, energies' 'lodge'
+    unlodged 'group stands twice' 'lodge group=5 group=5 energies=1,2,3'
+    unlodged "a field is written name=number: 'group'" 'lodge group energies=1,2,3'
+    unlodged "lodge has no field 'day'; its fields are group, energies, unit" 'lodge group=5 day=3 energies=1,2,3'
+    unlodged "there is no call 'submit' in a text of schedules; it has lodge alone" 'submit point=1 version=1 day=2 energies=1,2,3'
+    unlodged "there is no call 'month' in a text of schedules; it has lodge alone" 'month 2026-07'
+    unlodged "there is no call 'lodges' in a text of schedules; it has lodge alone" 'lodges group=5 energies=1,2,3'
+    printf '1\n2\n' >"$work/two.csv"
+    printf 'x;y\n1;2\n3;1000000000001\n4;5\n' >"$work/xy.csv"
+    unlodged 'none.csv: no such file' 'lodge group=5 energies=@none.csv'
+    unlodged 'two.csv: 2 energies, and the month has 3 quarter hours' 'lodge group=5 energies=@two.csv'
+    unlodged "xy.csv: line 3: $beyond: '1000000000001'" 'lodge group=5 energies=@xy.csv:y'
+    unlodged "xy.csv: line 1: has no column 'z'; its columns are x, y" 'lodge group=5 energies=@xy.csv:z'
+    unlodged 'has bytes that are no text in UTF-8, and not in a comment' "$(printf 'lodge group=5 energies=1,2,3\377')"
+    bad_texts "$1"
+}
+
+# Every bad line is named at once, in their order, and then nothing is reported or written; texts that are none.
+bad_texts() {
+    local bad=$work/bad.schedules
+    printf '%s\n' 'lodge group=0 energies=1,2,3' '' '# fine' 'submit' 'lodge group=1 energies=1' >"$bad"
+    printf '%s\n' "! desk: $bad: line 1: group is outside 1 to 64: '0'" \
+        "! desk: $bad: line 4: there is no call 'submit' in a text of schedules; it has lodge alone" \
+        "! desk: $bad: line 5: 1 energy, and the month has 3 quarter hours" >"$work/told"
+    echo before >"$work/before.html"
+    expect 'schedules: every bad line at once' 2 ./desk report "$1" "$bad" <"$work/told"
+    expect 'schedules: every bad line at once, for the page' 2 ./desk page "$1" --schedules "$bad" -o "$work/before.html" <"$work/told"
+    holds 'schedules: the page is as it was' grep -qx before "$work/before.html"
+    has 'schedules: carriage returns' 2 'line 1: has a carriage return, as 2 lines have; line ends are line feeds alone' \
+        ./desk report "$1" <(printf 'lodge group=1 energies=1,2,3\r\nlodge group=2 energies=1,2,3\r\n')
+    has 'schedules: a byte order mark' 2 'begins with a byte order mark; save it as UTF-8 without one$' ./desk report "$1" <(printf '\357\273\277lodge group=1 energies=1,2,3\n')
+    has 'schedules: UTF-16' 2 'is text in UTF-16; save it as UTF-8 without a byte order mark$' ./desk report "$1" <(printf '\377\376l\000')
+    has 'schedules: a message file' 2 'month.msg: is no text; schedules are lines `lodge group=N energies=\.\.`$' ./desk report "$1" examples/month.msg
+    has 'schedules: no such file' 2 'nothing.schedules: no such file$' ./desk report "$1" "$work/nothing.schedules"
+    has 'schedules: a folder' 2 'examples: is a folder$' ./desk report "$1" examples
+    has 'report: no such month' 2 'nothing.calls: no such file$' ./desk report "$work/nothing.calls" "$work/planned.schedules"
+}
+
+# A desk that is not open has nothing to report on.
+no_schedules() {
+    expect 'report: a desk that is not open' 1 ./desk report "$work/closed.calls" "$work/planned.schedules" --csv <<END
+run,group,lodged,schedule,figure,surplus,shortfall
+! desk: $work/closed.calls: 2 of 2 calls were refused; \`desk run\` says which and why
+! desk: $work/closed.calls: no call opened the desk
+END
+    has 'page: schedules of a desk that is not open' 1 '<strong>2 calls, 2 refused; the desk is not open</strong>' \
+        ./desk page "$work/closed.calls" --schedules "$work/planned.schedules"
+    holds 'page: it has no part on them' sh -c "! grep -q 'Surplus and shortfall' '$work/out'"
+}
+
+# July's plans are those that examples/plan.py writes; by columns in kilowatt-hours and on lines in watt-hours they give the same.
+july_reports() {
+    mkdir -p "$work/plan"
+    holds 'examples/plan.py' sh -c "python3 examples/plan.py '$work/plan' && cmp '$work/plan/july.plan' examples/july.plan"
+    awk -F';' 'NR == 1 { for (i = 2; i <= NF; i++) line[i] = "lodge group=" substr($i, 7) " energies="; n = NF }
+        NR > 1 { for (i = 2; i <= NF; i++) line[i] = line[i] (NR > 2 ? "," : "") 1000 * $i }
+        END { for (i = 2; i <= n; i++) print line[i] }' examples/july.plan >"$work/july.schedules"
+    ./desk report examples/july.calls examples/july.schedules >"$work/out"
+    holds 'report: July by columns and by lines' sh -c "./desk report examples/july.calls '$work/july.schedules' | cmp - '$work/out'"
+    holds 'report: July in each form' python3 tests/forms.py ./desk examples/july.calls --schedules "$work/july.schedules"
+    page_of july_planned examples/july.calls "$work/july.schedules"
+    page_script july_planned examples/july.calls "$work/july.schedules"
+}
+
+# Sixteen areas take 999,999,999,999 from the outside in each of 2,979 quarter hours, all of it group 3's, which planned as much below 0: 47,663,999,999,952,336
+# taken, and 50,642,999,999,949,357 apart, more digits than a number of a script has exactly.
+large_sums() {
+    { echo 'open quarters=2979 first=10 clearing=30 correction=150 others=3' &&
+        for area in $(seq 16); do echo "activate point=$area kind=exchange area=$area partner=outside day=0"; done &&
+        for area in $(seq 16); do echo "submit point=$area version=1 day=2 energies=@outside.csv"; done; } >"$work/most.calls"
+    yes 999999999999 | head -n 2979 >"$work/outside.csv"
+    echo "lodge group=3 energies=$(yes -- -999999999999 | head -n 2979 | paste -sd,)" >"$work/most.schedules"
+    expect 'report: the largest sums' 0 ./desk report "$work/most.calls" "$work/most.schedules" --run 2 <<END
+run  group  lodged                schedule                  figure                 surplus               shortfall
+  2      3  yes     -2 978 999 999 997 021  47 663 999 999 952 336                       0  50 642 999 999 949 357
+
+over all groups, Wh                                  run 2
+surplus less shortfall             -50 642 999 999 949 357
+schedules less outside exchange    -50 642 999 999 949 357
+    schedules                       -2 978 999 999 997 021
+    outside exchange                47 663 999 999 952 336
+both sides are equal in run 1 and in run 2
+END
+    page_of most "$work/most.calls" "$work/most.schedules"
+    page_script most "$work/most.calls" "$work/most.schedules"
+}
+
+# A library whose surplus is one too large in run 2 for group 9: the two sides differ, which is said in each form, and the exit status is not 0.
+wrong_reports() {
+    local wrong=$work/wrong desk=$work/wrong/release/desk
+    local words='run 2: surplus less shortfall is not schedules less outside exchange, by 1 Wh; do not use these reports'
+    holds 'a library with a wrong surplus' wrong_library "$wrong" || return
+    expect 'report: sides that differ' 1 "$desk" report "$1" "$2" --group 9 <<END
+run  group  lodged                schedule                  figure                 surplus               shortfall
+  1      9  yes                          2                       0                       7                       5
+  2      9  yes                          2                       0                       8                       5
+
+over all groups, Wh                                  run 1                     run 2
+surplus less shortfall                                 -62                       -91
+schedules less outside exchange                        -62                       -92
+    schedules                                          248                       248
+    outside exchange                                   310                       340
+$words
+! desk: $1: $words
+END
+    expect 'report: sides that differ, as csv, in the run that is not asked for' 1 "$desk" report "$1" "$2" --group 9 --run 1 --csv <<END
+run,group,lodged,schedule,figure,surplus,shortfall
+1,9,yes,2,0,7,5
+! desk: $1: $words
+END
+    has 'page: sides that differ' 1 "^<p class=\"bad\"><strong>$words</strong></p>\$" "$desk" page "$1" --schedules "$2"
+    holds 'page: they are not called equal' sh -c "! grep -q 'Both sides are equal' '$work/out'"
+}
+
+# The program over a copy of the library in which one entry is another.
+wrong_library() { # folder
+    mkdir -p "$1"
+    cat >"$1/wrong.c" <<END
+#include "emorizugu.h"
+uint64_t right_surplus(const uint8_t *, size_t, const uint8_t *, size_t, uint64_t, uint64_t, uint64_t);
+uint64_t emorizugu_surplus(const uint8_t *book, size_t length, const uint8_t *schedules, size_t schedules_length, uint64_t quarters, uint64_t run, uint64_t group) {
+    return right_surplus(book, length, schedules, schedules_length, quarters, run, group) + (run == 2 && group == 9);
+}
+END
+    gcc -std=c99 -pedantic -Wall -Wextra -Werror -O2 -Iinclude -c "$1/wrong.c" -o "$1/wrong.o" &&
+        objcopy --redefine-sym emorizugu_surplus=right_surplus "${EMORIZUGU_LIBS:-target/staticlib}/libhost.a" "$1/libhost.a" && ar r "$1/libhost.a" "$1/wrong.o" &&
+        CARGO_TARGET_DIR=$1 EMORIZUGU_LIBS=$1 RUSTFLAGS='-D warnings' cargo build --release --offline --locked --manifest-path command/Cargo.toml
+}
+
 # ---- days and dates
 
 # The same calls with numbers and with dates after October 2026.
@@ -1008,21 +1361,23 @@ example() { # command
 
 help() {
     local command
-    for command in run figures log points page pack print day date calendar causes; do
+    for command in run figures log points report page pack print day date calendar causes; do
         holds "help of $command, and its example" example "$command"
     done
+    holds 'help of report by its name' cmp <(./desk help report) <(./desk report --help)
     has 'help' 0 '^Exit status: 0 all calls accepted' ./desk --help
-    has 'version' 0 '^desk [0-9.]+, library 5$' ./desk --version
+    has 'version' 0 '^desk [0-9.]+, library 6$' ./desk --version
     has 'no command' 2 'desk run' ./desk
     has 'a wrong command' 2 "there is no command 'runn'; commands are run, figures" ./desk runn
     has 'help of a wrong command' 2 "there is no command 'runn'" ./desk help runn
     has 'words behind --version' 2 "nothing follows: 'x'" ./desk --version x
     has 'a wrong option' 2 'desk log has no option --runn; its options are --csv, --json, --run, --group, --month$' ./desk log x --runn 3
-    has 'an option of others: run' 2 'desk run has no option --group; figures, log, points have it$' ./desk run x --group 3
-    has 'an option of others: page' 2 'desk page has no option --run; figures, log, points have it$' ./desk page x --run 1
-    has 'an option of others: causes' 2 'desk causes has no option --run; figures, log, points have it$' ./desk causes --run 1
-    has 'an option of others: day' 2 'desk day has no option --month; run, figures, log, points, page, pack, print have it$' ./desk day x --month 2026-10
-    has 'an option of another' 2 'desk log has no option --all; desk figures has it$' ./desk log x --all
+    has 'an option of others: run' 2 'desk run has no option --group; figures, log, points, report have it$' ./desk run x --group 3
+    has 'an option of others: page' 2 'desk page has no option --run; figures, log, points, report have it$' ./desk page x --run 1
+    has 'an option of others: causes' 2 'desk causes has no option --run; figures, log, points, report have it$' ./desk causes --run 1
+    has 'an option of others: day' 2 'desk day has no option --month; run, figures, log, points, report, page, pack, print have it$' ./desk day x --month 2026-10
+    has 'an option of others: log' 2 'desk log has no option --all; figures, report have it$' ./desk log x --all
+    has 'an option of another' 2 'desk run has no option --schedules; desk page has it$' ./desk run x --schedules y
     has 'an option twice' 2 '--run stands twice' ./desk log x --run 1 --run 2
     has 'two forms' 2 '--csv and --json do not go together' ./desk log x --csv --json
     has 'an option without its number' 2 "--run takes a number from 1 to 2: ''" ./desk log x --run
@@ -1041,7 +1396,7 @@ help() {
 man_page() {
     local command line
     sed 's/\\-/-/g; s/\\&//g; s/\\e/\\/g' "$work/desk.1" >"$work/manual"
-    for command in run figures log points page pack print day date calendar causes; do
+    for command in run figures log points report page pack print day date calendar causes; do
         ./desk "$command" --help | while IFS= read -r line; do
             [ -z "$line" ] || grep -qF -- "${line%.}" "$work/manual" || { echo "$command: $line" && return 1; }
         done || return 1
@@ -1084,6 +1439,10 @@ causes() {
     done
     cause_order
     has 'one cause' 0 'to mend: put the calls in the order of their days' ./desk causes 5
+    expect 'the causes of a lodging and a report' 0 sh -c './desk causes 2 26 | grep calls:' <<END
+    calls:   submit, notice, assign, lodge, show, report; entries for C
+    calls:   assign, lodge
+END
     has 'the cause of a date' 0 '^    calls:   calendar$' ./desk causes 36
     has 'no such cause' 2 "there is no cause '7'" ./desk causes 7
 }
@@ -1137,6 +1496,7 @@ month() {
     holds "the page's numbers are those of figures" python3 tests/page.py "$work/large.html" "$work/large.csv"
     holds 'its lists in each form' python3 tests/forms.py ./desk "$work/large.msg" --group 20
     page_script large "$work/large.msg"
+    large_reports
     holds 'the page has no outside parts' sh -c "! grep -qE 'https?:|src=|@import|url\(' '$work/large.html'"
     page_of small examples/month.calls
     holds "the sample month's page" python3 tests/page.py "$work/small.html" "$work/small.csv"
@@ -1164,17 +1524,29 @@ END
     holds 'a name with marks and tags' grep -q '<h1>Month of .*/{{log}}&lt;&amp;.msg</h1>' "$work/odd.html"
 }
 
-# page_of NAME MONTH: the page and the figures.
+# Schedules of two thirds of its groups.
+large_reports() {
+    python3 tests/month.py 2976 schedules >"$work/large.schedules"
+    holds 'its reports in each form' python3 tests/forms.py ./desk "$work/large.msg" --schedules "$work/large.schedules"
+    holds 'no line of its reports above 120 columns' sh -c "! ./desk report '$work/large.msg' '$work/large.schedules' | grep -qE '.{121}'"
+    page_of large_planned "$work/large.msg" "$work/large.schedules"
+    holds 'its page with schedules below 5 MB' test "$(wc -c <"$work/large_planned.html")" -lt 5000000
+    holds "that page's numbers are those of figures" python3 tests/page.py "$work/large_planned.html" "$work/large_planned.csv"
+    page_script large_planned "$work/large.msg" "$work/large.schedules"
+}
+
+# page_of NAME MONTH [SCHEDULES]: the page and the figures.
 page_of() {
-    ./desk page "$2" >"$work/$1.html"
+    ./desk page "$2" ${3:+--schedules "$3"} >"$work/$1.html"
     ./desk figures "$2" --all --csv >"$work/$1.csv"
 }
 
-# page_script NAME MONTH: what the script of the page draws, tells and sorts.
+# page_script NAME MONTH [SCHEDULES]: what the script of the page draws, tells and sorts. The schedules are in watt-hours, on their lines.
 page_script() {
     ./desk points "$2" --csv >"$work/$1.points"
     ./desk log "$2" --csv >"$work/$1.log"
-    holds "the page's script: $1" node tests/page.js "$work/$1.html" "$work/$1.csv" "$work/$1.points" "$work/$1.log"
+    [ -z "${3:-}" ] || ./desk report "$2" "$3" --csv >"$work/$1.report"
+    holds "the page's script: $1" node tests/page.js "$work/$1.html" "$work/$1.csv" "$work/$1.points" "$work/$1.log" ${3:+"$work/$1.report" "$3"}
 }
 
 # ---- README
@@ -1208,6 +1580,7 @@ if ./desk --version >"$work/log" 2>&1; then
     bad_lines
     series_files
     there_and_back
+    reports
     dated_text
     questions
     calendars

@@ -1,6 +1,6 @@
 /*
  * Every entry with NULL where the length is 0, the calendar, and both on a thread of EMORIZUGU_STACK bytes; the places of
- * the points, and the versions selected in document 01's sample month with their statuses.
+ * the points, and of document 01's sample month the versions selected with their statuses, and a report.
  */
 #include <pthread.h>
 #include <stdio.h>
@@ -45,12 +45,15 @@ static int nothing(void) {
     uint64_t size = 7;
     if (emorizugu_run(&none) != 0 || none.summary[EMORIZUGU_ANSWERED] != 0)
         return wrong("a replay of nothing");
-    if (emorizugu_replay(NULL, 0, NULL, 0, NULL, 0, NULL, 0, NULL, 0, NULL, 0, NULL, 0, NULL, 0, NULL, 0) != 2)
+    if (emorizugu_replay(NULL, 0, NULL, 0, NULL, 0, NULL, 0, NULL, 0, NULL, 0, NULL, 0, NULL, 0, NULL, 0, NULL, 0) != 2)
         return wrong("a replay with no summary");
     if (emorizugu_file_refusal(NULL, 0) != 0 || emorizugu_file_offset(NULL, 0) != 0)
         return wrong("an empty file");
     if (emorizugu_figure_refusal(NULL, 0, 1, 1, 1, 1) != 2 || emorizugu_figure(NULL, 0, 1, 1, 1, 1) != 0)
         return wrong("a figure of no book");
+    if (emorizugu_report_refusal(NULL, 0, NULL, 0, 1, 1, 1) != 2 || emorizugu_surplus(NULL, 0, NULL, 0, 1, 1, 1) != 0
+        || emorizugu_shortfall(NULL, 0, NULL, 0, 1, 1, 1) != 0)
+        return wrong("a report of no book");
     if (emorizugu_sum(NULL, 0, 1, 1, 0) != 0 || emorizugu_difference(NULL, 0, 1, 0) != 0)
         return wrong("a sum of no book");
     if (emorizugu_read(NULL, 0, 0, NULL, 0, NULL, 0) != 2)
@@ -74,10 +77,35 @@ static int selected(void) {
 static int places(size_t points, uint64_t answer) {
     static struct emorizugu_lent none;
     none.points[0] = 9;
-    if (emorizugu_replay(NULL, 0, NULL, 0, NULL, 0, NULL, 0, NULL, 0, NULL, 0, none.summary, EMORIZUGU_SUMMARY,
+    if (emorizugu_replay(NULL, 0, NULL, 0, NULL, 0, NULL, 0, NULL, 0, NULL, 0, NULL, 0, none.summary, EMORIZUGU_SUMMARY,
                          none.points, points, none.versions, EMORIZUGU_VERSIONS_LENGTH) != answer)
         return wrong("the places of the points");
     return none.points[0] == (answer == 0 ? 0 : 9) ? 0 : wrong("points that are too few");
+}
+
+/* A report of group 5, as it is read of what the replay left: its schedule is 0 until the host writes one. */
+static int reported(uint64_t surplus, uint64_t shortfall) {
+    uint64_t quarters = r.summary[EMORIZUGU_OPENED];
+    const uint8_t *book = (const uint8_t *)r.book, *schedules = (const uint8_t *)r.schedules;
+    size_t length = EMORIZUGU_BOOK_BYTES * quarters, schedules_length = EMORIZUGU_SCHEDULE_BYTES * quarters;
+    if (emorizugu_report_refusal(book, length, schedules, schedules_length, quarters, 1, 5) != 0)
+        return wrong("no report");
+    return emorizugu_surplus(book, length, schedules, schedules_length, quarters, 1, 5) == surplus
+                   && emorizugu_shortfall(book, length, schedules, schedules_length, quarters, 1, 5) == shortfall
+               ? 0
+               : wrong("a report");
+}
+
+/* The schedules of the month's two quarter hours are 0, those behind them as they were. */
+static int schedules(void) {
+    size_t i, used = EMORIZUGU_SCHEDULES_LENGTH(r.summary[EMORIZUGU_OPENED]);
+    for (i = 0; i < r.schedules_length; i++)
+        if (r.schedules[i] != (i < used ? 0 : 7))
+            return wrong("the schedules of a replay");
+    if (reported(0, 95000) != 0)
+        return 1;
+    r.schedules[8] = 49000, r.schedules[9] = 46000;
+    return reported(1000, 1000);
 }
 
 static int small_stack(const char *name) {
@@ -85,21 +113,25 @@ static int small_stack(const char *name) {
     pthread_attr_t attributes;
     pthread_t thread;
     uint64_t refusal = 1;
+    size_t i;
     if (in == NULL)
         return wrong("no file");
     r.file = file, r.length = fread(file, 1, sizeof file, in);
     r.values_length = EMORIZUGU_VALUES_LENGTH(8, 16), r.values = calloc(r.values_length, 8);
     r.book_length = EMORIZUGU_BOOK_LENGTH(8), r.book = calloc(r.book_length, 8);
     r.log_length = EMORIZUGU_LOG_LENGTH(16), r.log = calloc(r.log_length, 8);
+    r.schedules_length = EMORIZUGU_SCHEDULES_LENGTH(8), r.schedules = calloc(r.schedules_length, 8);
     r.series_length = 8, r.series = calloc(8, 8);
     r.answers_length = EMORIZUGU_ANSWERS_LENGTH(r.length), r.answers = calloc(r.answers_length, 8);
+    for (i = 0; i < r.schedules_length; i++)
+        r.schedules[i] = 7;
     pthread_attr_init(&attributes);
     pthread_attr_setstacksize(&attributes, EMORIZUGU_STACK);
     if (pthread_create(&thread, &attributes, run, &refusal) != 0 || pthread_join(thread, NULL) != 0)
         return wrong("no thread");
     if (refusal != 0 || r.summary[EMORIZUGU_REFUSED] != 0)
         return wrong("a replay on a small stack");
-    return selected();
+    return selected() == 0 ? schedules() : 1;
 }
 
 int main(int argc, char **argv) {

@@ -1,28 +1,42 @@
 #!/usr/bin/env python3
 """Compares the forms of each list of `desk` on a month: text, csv and json have the same rows in the same order, at each run, and the order is total.
 Of the points' versions those count that document 01 selects by their statuses, and `desk run` tells the same of each point.
+With schedules, in watt-hours and on their lines, each report is what document 02 works out from schedules and figures, and so are both sides of their sum.
 
-    forms.py DESK MONTH [--group N] [--month M]
+    forms.py DESK MONTH [--schedules TEXT] [--group N] [--month M]
 """
 
+import argparse
 import csv
 import io
 import json
 import re
 import subprocess
-import sys
 
 STATUSES = ("check data", "settlement data", "settled", "correction settlement data", "correction settled")
 FIRST, SECOND, SETTLED = STATUSES[1:3], STATUSES[3:], STATUSES[2::2]
 
 # The columns that a list is ordered by; no two rows are equal in them.
-ORDER = {"figures": ("run", "quarter", "group"), "log": ("row",), "points": ("point", "version")}
+ORDER = {"figures": ("run", "quarter", "group"), "log": ("row",), "points": ("point", "version"), "report": ("run", "group")}
+
+WORDS = argparse.ArgumentParser()
+for word in ("desk", "file", "--schedules", "--group", "--month"):
+    WORDS.add_argument(word)
+ASKED = WORDS.parse_args()
+MONTH = ["--month", ASKED.month] if ASKED.month else []
+GROUP = ["--group", ASKED.group] if ASKED.group else []
+
+
+def written(name, *options):
+    """What a command writes of the month."""
+    schedules = [ASKED.schedules] if name == "report" else []
+    answer = subprocess.run([ASKED.desk, name, ASKED.file, *schedules, *MONTH, *options], stdout=subprocess.PIPE, check=False)
+    assert answer.returncode in (0, 1), answer.returncode
+    return answer.stdout.decode()
 
 
 def listed(name, *options):
-    answer = subprocess.run([sys.argv[1], name, *sys.argv[2:], *options], stdout=subprocess.PIPE, check=False)
-    assert answer.returncode in (0, 1), answer.returncode
-    return answer.stdout.decode()
+    return written(name, *GROUP, *options)
 
 
 def highest(versions, statuses):
@@ -78,9 +92,7 @@ def fitted(others, room):
 
 def told(points):
     """The table of `desk run` has each point's line."""
-    month = [word for at, word in enumerate(sys.argv) if word == "--month" or sys.argv[at - 1] == "--month"]
-    answer = subprocess.run([sys.argv[1], "run", sys.argv[2], *month], stdout=subprocess.PIPE, check=False)
-    text = answer.stdout.decode()
+    text = written("run")
     head, *lines = text[text.index("\npoint  series ") + 1 :].splitlines()
     places = [head.index(word) for word in ("series", "settled", "run 1", "run 2", "other versions")]
     cells = [[one[a:b].strip() for a, b in zip([0, *places], [*places, None])] for one in lines]
@@ -111,8 +123,61 @@ def counted(points):
             assert row["settled"] == ("yes" if is_settled(row) else "no"), row
 
 
+def lodged():
+    """The schedules of the text by group; a later line replaces an earlier one."""
+    with open(ASKED.schedules, encoding="utf-8") as file:
+        lines = re.findall(r"^lodge group=(\d+) energies=(\S+)", file.read(), re.M)
+    return {int(group): [int(energy) for energy in energies.split(",")] for group, energies in lines}
+
+
+def taken():
+    """The figures by run and group, in the order of their quarter hours."""
+    figures = {}
+    for row in csv.DictReader(io.StringIO(written("figures", "--all", "--csv"))):
+        figures.setdefault((int(row["run"]), int(row["group"])), []).append(int(row["figure"]))
+    return figures
+
+
+def report_of(schedule, figures):
+    """Schedule, figure, surplus and shortfall, each summed over the month."""
+    apart = [planned - took for planned, took in zip(schedule, figures)]
+    return [sum(schedule), sum(figures), sum(max(0, one) for one in apart), sum(max(0, -one) for one in apart)]
+
+
+def reported():
+    """Each report is what document 02 says, and so are both sides of their sum."""
+    schedules, figures = lodged(), taken()
+    nothing = [0] * len(figures[1, 1])
+    wanted = {(run, group): report_of(schedules.get(group, nothing), row) for (run, group), row in figures.items()}
+    rows = list(csv.reader(io.StringIO(written("report", "--all", "--csv"))))[1:]
+    assert [(int(run), int(group)) for run, group, *_ in rows] == sorted(wanted), len(rows)
+    for run, group, whether, *sums in rows:
+        assert whether == ("yes" if int(group) in schedules else "no"), (run, group, whether)
+        assert list(map(int, sums)) == wanted[int(run), int(group)], (run, group, sums)
+    sides(wanted)
+
+
+def sides(reports):
+    """Below the list: the figures of all groups add up to the outside exchange."""
+    lines = written("report").split("\n\n")[1].splitlines()
+    assert lines.pop() == "both sides are equal in run 1 and in run 2", lines
+    table = {label.strip(): cells for label, *cells in (re.split(r"  +", line.rstrip()) for line in map(str.strip, lines))}
+    for run in (1, 2):
+        schedule, figure, surplus, shortfall = map(sum, zip(*(sums for (of, _), sums in reports.items() if of == run)))
+        wanted = {
+            "surplus less shortfall": surplus - shortfall,
+            "schedules less outside exchange": schedule - figure,
+            "schedules": schedule,
+            "outside exchange": figure,
+        }
+        shown = {label: int(table[label][run - 1].replace(" ", "")) for label in wanted}
+        assert shown == wanted and surplus - shortfall == schedule - figure, (run, shown, wanted)
+
+
 def main():
     for name, order in ORDER.items():
+        if name == "report" and not ASKED.schedules:
+            continue
         table = listed(name, "--csv")
         assert table == listed(name, "--csv"), name
         head, *rows = csv.reader(io.StringIO(table))
@@ -120,15 +185,17 @@ def main():
         assert [list(one) for one in objects] == [head] * len(rows), name
         assert [["" if cell is None else str(cell) for cell in one.values()] for one in objects] == rows, name
         # Columns of a text stand two blanks apart at least; a cell may be empty.
-        first, *lines = listed(name).splitlines()
+        first, *lines = listed(name).split("\n\n")[0].splitlines()
         assert first.split() == [word for column in head for word in column.split("_")], name
-        shown = [[cell for cell in re.split(r"  +", line.strip()) if cell] for line in lines]
+        shown = [[re.sub(r"(?<=\d) (?=\d{3})", "", cell) for cell in re.split(r"  +", line.strip()) if cell] for line in lines]
         assert shown == [[cell for cell in row if cell] for row in rows], name
         keys = [tuple(int(row[head.index(column)] or 0) for column in order) for row in rows]
         assert all(one < next for one, next in zip(keys, keys[1:])), name
     points = points_of(list(csv.DictReader(io.StringIO(listed("points", "--csv")))))
     counted(points)
     told(points)
+    if ASKED.schedules:
+        reported()
 
 
 main()

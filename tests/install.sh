@@ -46,6 +46,7 @@ compiled() { # compiler, program, what is compiled..
 
 in_c() {
     lines book.c && cmp "$work/examples/new.book" examples/month.book && lines host.c &&
+        lines report.c && grep -q '^    5  *1000  *1000$' "$work/out" &&
         lines calendar.c && [ "$(cat "$work/out")" = 9 ] && compiled gcc book -std=c99 examples/book.c examples/files.c
 }
 

@@ -1,7 +1,7 @@
 #!/usr/bin/env python3
-"""Writes a large month as text: so many quarter hours, 256 points, 512 versions, both runs settled.
+"""Writes a large month as text: so many quarter hours, 256 points, 512 versions, both runs settled. Or schedules for it: of most groups, one of them twice.
 
-    month.py QUARTERS
+    month.py QUARTERS [schedules]
 """
 
 import sys
@@ -29,6 +29,14 @@ def series():
         yield "area-sum", area, 0
 
 
+def schedules():
+    """Plans above and below what the groups take, by turns, and beside 0 for those that take nothing; groups 3, 6, 9 and so on have none."""
+    for group in [5, *(group for group in range(1, 65) if group % 3)]:
+        level = 1560000 + 1000 * group if group <= 30 else 0
+        plan = (level + (quarter % 17 - 8) * (20000 + group) for quarter in range(QUARTERS))
+        print(f"lodge group={group} energies={','.join(map(str, plan))}")
+
+
 def main():
     groups = " ".join(f"{area}={area}" for area in range(1, 17))
     print(f"open quarters={QUARTERS} first=10 clearing=30 correction=150 T=64 {groups}")
@@ -48,4 +56,7 @@ def main():
     print("settle run=2 day=151")
 
 
-main()
+if sys.argv[2:] == ["schedules"]:
+    schedules()
+else:
+    main()

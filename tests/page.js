@@ -1,16 +1,21 @@
 // Runs the script of a page of `desk page` over a stand-in for a browser's document, clicks, and compares what it draws and tells with the lists:
-// heat maps, a group's curve on a click, the timeline, what each run selects; a sorted column keeps ties in the list's order and each row whole.
+// heat maps, a group's curve on a click, the timeline, what each run selects; a sorted column keeps ties in the list's order and each row whole. With schedules,
+// in watt-hours and on their lines, also the bars and the table of surplus and shortfall, and the schedule beside a curve.
 //
-//     node page.js PAGE FIGURES POINTS LOG        the lists as csv, figures with --all
+//     node page.js PAGE FIGURES POINTS LOG [REPORT SCHEDULES]        the lists as csv, figures with --all
 "use strict";
 const assert = require("assert");
 const fs = require("fs");
 
 const page = fs.readFileSync(process.argv[2], "utf8");
-const [figures, points, log] = process.argv.slice(3).map((name) => {
+const [figures, points, log, report] = process.argv.slice(3, 7).map((name) => {
   const [head, ...lines] = fs.readFileSync(name, "utf8").trimEnd().split("\n").map((line) => line.split(","));
   return lines.map((line) => { const row = {}; head.forEach((column, at) => row[column] = line[at]); return row; });
 });
+
+const plans = {};
+const lodgings = process.argv[7] === undefined ? "" : fs.readFileSync(process.argv[7], "utf8");
+for (const [, group, energies] of lodgings.matchAll(/^lodge group=(\d+) energies=(\S+)/gm)) plans[group] = energies.split(",").map(Number);
 
 // ---- the stand-in
 
@@ -52,7 +57,7 @@ class Canvas {
       setTransform: still, fillText: still, setLineDash: still, beginPath: still, stroke: still,
       clearRect() { canvas.clear(); },
       measureText: (text) => ({ width: 6 * text.length }),
-      fillRect(x, y) { canvas.rectangles.push({ x, y, colour: this.fillStyle, strength: this.globalAlpha }); },
+      fillRect(x, y, wide, high) { canvas.rectangles.push({ x, y, wide, high, colour: this.fillStyle, strength: this.globalAlpha }); },
       lineTo(x, y) { canvas.corners.push({ x, y, colour: this.strokeStyle }); },
     };
   }
@@ -62,6 +67,7 @@ const width = 640;
 const tables = [...page.matchAll(/<table.*?<\/table>/gs)].map((found) => tableOf(found[0]));
 const elements = { data: { textContent: page.match(/id="data">(.*?)<\/script>/s)[1] }, which: {}, told: {} };
 for (const name of ["heat1", "heat2", "curve", "time"]) elements[name] = new Canvas(width);
+if (page.includes('id="deviation"')) Object.assign(elements, { deviation: new Canvas(width), deviated: {} });
 const groupRows = () => tables.flatMap((table) => table.tBodies[0].rows).filter((row) => row.dataset.group !== undefined);
 const nobody = { addEventListener() {} };
 const document = {
@@ -120,22 +126,23 @@ const digits = (text) => text.replace(/\u202f/g, "");
 function curve(group) {
   assert.strictEqual(elements.which.textContent, "group " + group);
   const marked = groupRows().filter((row) => row.classes.has("picked")).map((row) => row.dataset.group);
-  assert.deepStrictEqual(marked, [String(group)]);
-  const corners = elements.curve.corners;
-  assert.strictEqual(corners.length, 4 * Q);
+  assert.deepStrictEqual(marked, Array(report === undefined ? 1 : 2).fill(String(group)));
+  const corners = elements.curve.corners, plan = plans[group];
+  assert.strictEqual(corners.length, (plan === undefined ? 4 : 6) * Q);
   const size = (corners[2 * Q - 1].x - corners[0].x) / Q;
-  const all = [...wanted[0][group], ...wanted[1][group]];
+  const all = [...wanted[0][group], ...wanted[1][group], ...plan || []];
   const low = Math.min(0, ...all), high = Math.max(0, ...all);
   const zero = heightOf(corners, all, low, high);
   for (let q = 0; q < Q; q++) {
-    for (const run of [0, 1]) {
+    for (let run = 0; run < all.length / Q; run++) {
       const [begin, end] = corners.slice(2 * (run * Q + q), 2 * (run * Q + q) + 2);
-      assert.strictEqual(begin.colour, run ? "--second" : "--more");
+      assert.strictEqual(begin.colour, ["--more", "--second", "--good"][run]);
       assert(Math.abs(begin.y - zero(all[run * Q + q])) < 1e-6 && begin.y === end.y, `curve of group ${group}, quarter hour ${q + 1}`);
       assert(Math.abs(end.x - begin.x - size) < 1e-6);
     }
     elements.curve.onmousemove({ offsetX: corners[0].x + (q + 0.5) * size });
-    assert.strictEqual(digits(elements.told.textContent), ` · quarter hour ${q + 1}: ${wanted[0][group][q]} and ${wanted[1][group][q]} Wh`);
+    const planned = plan === undefined ? "" : `; schedule ${plan[q]} Wh`;
+    assert.strictEqual(digits(elements.told.textContent), ` · quarter hour ${q + 1}: ${wanted[0][group][q]} and ${wanted[1][group][q]} Wh${planned}`);
   }
   elements.curve.onmousemove({ offsetX: 0 });
   assert.strictEqual(elements.told.textContent, "");
@@ -148,6 +155,49 @@ function heightOf(corners, all, low, high) {
   assert(all[a] === all[b] || slope < 0);
   assert(high > low);
   return (figure) => corners[2 * a].y + slope * (figure - all[a]);
+}
+
+// ---- surplus and shortfall
+
+const sides = ["surplus", "shortfall"];
+
+// The reports of a group, run 1 and run 2, in the list's order of groups.
+function reports() {
+  const [first, second] = ["1", "2"].map((run) => report.filter((row) => row.run === run));
+  return first.map((row, at) => { assert.strictEqual(row.group, second[at].group); return [row, second[at]]; });
+}
+
+// A bar for each sum that is not 0: surplus to the right of the line, shortfall to its left, as long as the sum but a pixel at least; run 1 above run 2, which is fainter.
+function bars() {
+  const drawn = elements.deviation.rectangles.filter(({ colour }) => colour === "--more" || colour === "--less");
+  const [line] = elements.deviation.rectangles.filter(({ colour, wide }) => colour === "--faint" && wide === 1);
+  const rows = reports(), sums = rows.flatMap((runs, at) => runs.flatMap((row, run) => sides.map((side) => ({ at, run, side, sum: Number(row[side]) })))).filter(({ sum }) => sum !== 0);
+  assert.strictEqual(drawn.length, sums.length);
+  const most = (side) => Math.max(0, ...sums.filter((one) => one.side === side).map(({ sum }) => sum));
+  const size = (width - 38) / Math.max(1, most("surplus") + most("shortfall")), step = rows.length > 24 ? 17 : 25;
+  sums.forEach(({ at, run, side, sum }, place) => {
+    const { x, y, wide, high, colour, strength } = drawn[place], over = side === "surplus";
+    assert.deepStrictEqual([colour, strength], [over ? "--more" : "--less", run ? 0.5 : 1], `${side} of ${rows[at][0].group}`);
+    assert(Math.abs(wide - Math.max(1, sum * size)) < 1e-6 && Math.abs((over ? x : x + wide) - line.x) < 1e-6, `${side} of ${rows[at][0].group}`);
+    assert(y >= at * step && y + high <= (at + 1) * step && Math.floor((y - at * step) / (high + 3)) === run);
+  });
+  return step;
+}
+
+// What is told of a group, and its curve on a click where it has one.
+function deviations() {
+  const step = bars();
+  reports().forEach((runs, at) => {
+    const middle = { offsetY: (at + 0.5) * step }, before = elements.which.textContent, group = runs[0].group;
+    elements.deviation.onmousemove(middle);
+    assert.strictEqual(digits(elements.deviated.textContent), ` · group ${group}: ${runs.map((row) => `run ${row.run} surplus ${row.surplus}, shortfall ${row.shortfall}`).join("; ")} Wh`);
+    elements.deviation.onclick(middle);
+    assert.strictEqual(elements.which.textContent, groups.includes(group) ? "group " + group : before);
+  });
+  elements.deviation.onmousemove({ offsetY: report.length * step });
+  assert.strictEqual(elements.deviated.textContent, "");
+  const shown = tables[1].tBodies[0].rows.map((row) => row.cells.map((cell) => cell.dataset.n === undefined ? cell.textContent : cell.dataset.n));
+  assert.deepStrictEqual(shown, reports().map(([first, second]) => [first.group, first.lodged, first.schedule, ...[first, second].flatMap((row) => sides.map((side) => row[side]))]));
 }
 
 // ---- the timeline
@@ -208,13 +258,15 @@ function selectedRow(number) {
   return [number, seriesOf(rows[0]), word, ...cells, others.join(", ")];
 }
 
-const [, , selectedTable, pointTable, logTable] = tables;
+assert.strictEqual(tables.length, report === undefined ? 5 : 6);
+const [selectedTable, pointTable, logTable] = tables.slice(-3);
 assert.deepStrictEqual(selectedTable.tBodies[0].rows.map((row) => row.cells.map((cell) => cell.textContent)), [...new Set(points.map((row) => row.point))].map(selectedRow));
 for (const [table, list] of [[pointTable, points], [logTable, log]]) assert.deepStrictEqual(listed(table, list), list.map((row) => Object.values(row).join()));
 timeline();
 const high = heat(0);
 heat(1);
 if (groups.length > 0) curve(Number(groups[0]));
+if (report !== undefined) deviations();
 const some = groups.filter((_, at) => at % Math.ceil(groups.length / 8) === 0);
 for (const group of some) {
   groupRows().find((row) => row.dataset.group === group).onclick();

@@ -37,6 +37,19 @@ static void sums(void) {
         puts("");
 }
 
+/* Every report of both runs. */
+static void reports(void) {
+    uint64_t run, group, quarters = r.summary[EMORIZUGU_OPENED], all = 0;
+    const uint8_t *book = (const uint8_t *)r.book, *schedules = (const uint8_t *)r.schedules;
+    size_t length = EMORIZUGU_BOOK_BYTES * quarters, schedules_length = EMORIZUGU_SCHEDULE_BYTES * quarters;
+    for (run = 1; run <= EMORIZUGU_RUNS; run++)
+        for (group = 1; group <= EMORIZUGU_GROUPS; group++)
+            all += emorizugu_surplus(book, length, schedules, schedules_length, quarters, run, group) +
+                   emorizugu_shortfall(book, length, schedules, schedules_length, quarters, run, group);
+    if (all == 1)
+        puts("");
+}
+
 static void quickest(const char *what, void (*part)(void)) {
     double best = 1e9;
     int i;
@@ -58,12 +71,14 @@ int main(int argc, char **argv) {
     r.values_length = EMORIZUGU_VALUES_LENGTH(EMORIZUGU_QUARTERS, EMORIZUGU_VERSIONS), r.values = calloc(r.values_length, 8);
     r.book_length = EMORIZUGU_BOOK_LENGTH(EMORIZUGU_QUARTERS), r.book = calloc(r.book_length, 8);
     r.log_length = EMORIZUGU_LOG_LENGTH(EMORIZUGU_VERSIONS), r.log = calloc(r.log_length, 8);
+    r.schedules_length = EMORIZUGU_SCHEDULES_LENGTH(EMORIZUGU_QUARTERS), r.schedules = calloc(r.schedules_length, 8);
     r.series_length = EMORIZUGU_SERIES_LENGTH, r.series = calloc(r.series_length, 8);
     r.answers_length = EMORIZUGU_ANSWERS_LENGTH(r.length), r.answers = calloc(r.answers_length, 8);
-    if (!r.values || !r.book || !r.log || !r.series || !r.answers)
+    if (!r.values || !r.book || !r.log || !r.schedules || !r.series || !r.answers)
         return fprintf(stderr, "times: no memory\n"), 2;
     quickest("replay", replay);
     quickest("reading the calls", read_calls);
     quickest("sums and differences", sums);
+    quickest("all reports", reports);
     return 0;
 }

@@ -17,6 +17,7 @@ use crate::cause::{
 };
 use crate::replay::{self, Stores};
 use crate::row;
+use crate::script;
 use crate::series::{
     group_row, is_group, is_series, sides, Side, AREAS, BOOK_ROWS, DELTAS, GROUPS, ROWS,
 };
@@ -106,17 +107,18 @@ impl Version {
 struct Opening {
     quarters: u64,
     deadlines: [u64; 3],
-    values: usize,
-    book: usize,
-    log: usize,
+    /// Those of values, book, log and schedules.
+    lengths: [usize; 4],
 }
 
 impl Opening {
     fn fits(&self) -> bool {
+        let [_, book, log, schedules] = self.lengths;
         (1..=QUARTERS).contains(&self.quarters)
             && are_deadlines(self.deadlines)
-            && self.book as u64 == BOOK_ROWS as u64 * self.quarters
-            && self.log.is_multiple_of(LOG_ROW)
+            && book as u64 == BOOK_ROWS as u64 * self.quarters
+            && log.is_multiple_of(LOG_ROW)
+            && schedules as u64 == GROUPS * self.quarters
     }
 }
 
@@ -184,9 +186,7 @@ impl<const LOOK: u8> Desk<LOOK> {
         let unopened = Opening {
             quarters: 0,
             deadlines: [0; 3],
-            values: 0,
-            book: 0,
-            log: 0,
+            lengths: [0; 4],
         };
         Self::opened(unopened, [0; DELTAS])
     }
@@ -195,8 +195,7 @@ impl<const LOOK: u8> Desk<LOOK> {
     fn frame_fits(&self) -> bool {
         let Opening {
             quarters,
-            values,
-            log,
+            lengths: [values, _, log, _],
             ..
         } = self.opening;
         self.opening.fits()
@@ -257,7 +256,7 @@ impl<const LOOK: u8> Desk<LOOK> {
             fit &= active.fits();
             look.taken |= active.series() == series;
         }
-        let rows = self.opening.values as u64 / self.opening.quarters;
+        let rows = self.opening.lengths[0] as u64 / self.opening.quarters;
         for (at, version) in self.versions[..self.count].iter().enumerate() {
             fit &= version.fits(rows);
             if u64::from(version.point) == point {
@@ -277,15 +276,14 @@ impl<const LOOK: u8> Desk<LOOK> {
         let opening = Opening {
             quarters: fields[0],
             deadlines: [fields[1], fields[2], fields[3]],
-            values: stores.values.len(),
-            book: stores.book.len(),
-            log: stores.log.len(),
+            lengths: stores.lengths(),
         };
         let mut groups = [0; DELTAS];
         groups.copy_from_slice(&fields[4..]);
         let fits = opening.fits() && groups.iter().all(|&group| is_group(group));
         refuse_if(!fits, Cause::BadOpening)?;
         stores.book.fill(0);
+        stores.schedules.fill(0);
         *self = Self::opened(opening, groups);
         Ok(())
     }
@@ -414,7 +412,8 @@ impl<const LOOK: u8> Desk<LOOK> {
         stores: &mut Stores,
     ) -> Result<(), Cause> {
         self.look(0, 0, (0, 0, 0))?;
-        refuse_if(stores.book.len() != self.opening.book, Cause::WrongLength)?;
+        let [_, book, _, _] = self.opening.lengths;
+        refuse_if(stores.book.len() != book, Cause::WrongLength)?;
         let fits = area <= AREAS && is_group(group) && day <= LAST_DAY;
         refuse_if(!fits, Cause::BadField)?;
         refuse_if(day < self.day, Cause::PastDay)?;
@@ -483,18 +482,15 @@ impl<const LOOK: u8> Desk<LOOK> {
         refuse_if(day > correction, Cause::AfterCorrection)
     }
 
-    /// Cause 2 for a call that takes all three stores.
+    /// Cause 2 for a call that takes values, book and log.
     fn same_lengths(&self, stores: &Stores) -> Result<(), Cause> {
-        let Opening {
-            values, book, log, ..
-        } = self.opening;
-        let lent = (stores.values.len(), stores.book.len(), stores.log.len());
-        refuse_if(lent != (values, book, log), Cause::WrongLength)
+        let other = stores.lengths()[..3] != self.opening.lengths[..3];
+        refuse_if(other, Cause::WrongLength)
     }
 
     /// Cause 17.
     fn room_for(&self, turn: Option<Run>) -> Result<(), Cause> {
-        let full = self.used == self.opening.log / LOG_ROW;
+        let full = self.used == self.opening.lengths[2] / LOG_ROW;
         refuse_if(turn.is_some() && full, Cause::NoLogRow)
     }
 
@@ -613,6 +609,55 @@ impl<const LOOK: u8> replay::Desk for Desk<LOOK> {
     }
 }
 
+impl<const LOOK: u8> script::Desk for Desk<LOOK> {
+    fn lodge(
+        &mut self,
+        group: u64,
+        day: u64,
+        energies: &[u64],
+        schedules: &mut [u64],
+    ) -> Result<(), Cause> {
+        self.look(0, 0, (0, 0, 0))?;
+        let [_, _, _, length] = self.opening.lengths;
+        refuse_if(schedules.len() != length, Cause::WrongLength)?;
+        let quarters = self.opening.quarters as usize;
+        let fits = is_group(group)
+            && day <= LAST_DAY
+            && energies.len() == quarters
+            && are_energies(energies);
+        refuse_if(!fits, Cause::BadField)?;
+        refuse_if(day < self.day, Cause::PastDay)?;
+        let [_, clearing, _] = self.opening.deadlines;
+        refuse_if(day > clearing, Cause::AfterClearing)?;
+        schedules[group_row(group) * quarters..][..quarters].copy_from_slice(energies);
+        self.day = day;
+        Ok(())
+    }
+
+    fn report(
+        &self,
+        run: u64,
+        group: u64,
+        book: &[u64],
+        schedules: &[u64],
+    ) -> Result<[u64; 2], Cause> {
+        self.look(0, 0, (0, 0, 0))?;
+        let [_, figures, _, planned] = self.opening.lengths;
+        let other = (book.len(), schedules.len()) != (figures, planned);
+        refuse_if(other, Cause::WrongLength)?;
+        refuse_if(
+            !((1..=2).contains(&run) && is_group(group)),
+            Cause::BadField,
+        )?;
+        let quarters = self.opening.quarters as usize;
+        let row = (run as usize - 1) * ROWS + group_row(group);
+        let figures = &book[row * quarters..][..quarters];
+        let schedule = &schedules[group_row(group) * quarters..][..quarters];
+        let pairs = schedule.iter().copied().zip(figures.iter().copied());
+        Ok(row::deviations(pairs))
+    }
+}
+
 /// A whole message file through a fresh desk that tests cause 1 at each call: 0, or the number of the refusal that ended it.
 pub fn replay(file: &[u8], buffers: &mut Buffers) -> u64 {
     replay::replay(Desk::<TESTED>::fresh(), file, buffers)
@@ -626,4 +671,14 @@ pub fn replay_untested(file: &[u8], buffers: &mut Buffers) -> u64 {
 /// The same with the versions of each point in a chain.
 pub fn replay_chained(file: &[u8], buffers: &mut Buffers) -> u64 {
     replay::replay(Desk::<CHAINED>::fresh(), file, buffers)
+}
+
+/// A script through a fresh desk that tests cause 1 at each call: how many places of the output are filled.
+pub fn script(script: &[u64], buffers: &mut Buffers, out: &mut [u64]) -> usize {
+    script::run(Desk::<TESTED>::fresh(), script, buffers, out)
+}
+
+/// The same through a desk that tests of cause 1 the missing opening alone.
+pub fn script_untested(script: &[u64], buffers: &mut Buffers, out: &mut [u64]) -> usize {
+    script::run(Desk::<UNTESTED>::fresh(), script, buffers, out)
 }

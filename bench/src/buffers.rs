@@ -1,6 +1,6 @@
 //! What a replay of a message file is lent.
 
-use crate::series::BOOK_ROWS;
+use crate::series::{BOOK_ROWS, GROUPS};
 
 /// Places of a summary.
 pub const SUMMARY: usize = 5;
@@ -14,6 +14,8 @@ pub struct Buffers {
     pub book: Vec<u64>,
     /// The log.
     pub log: Vec<u64>,
+    /// The schedules.
+    pub schedules: Vec<u64>,
     /// The energies of the submission that was read last.
     pub series: Vec<u64>,
     /// A place for each call's number.
@@ -31,6 +33,7 @@ impl Buffers {
             values: places(versions * quarters),
             book: places(BOOK_ROWS * quarters),
             log: places(4 * versions),
+            schedules: places(GROUPS as usize * quarters),
             series: places(quarters),
             answers: places(calls),
             summary: places(SUMMARY),
@@ -38,7 +41,7 @@ impl Buffers {
     }
 
     /// What a replay writes, by its name.
-    pub fn named(&self) -> [(&'static str, &[u64]); 6] {
+    pub fn named(&self) -> [(&'static str, &[u64]); 7] {
         [
             ("answers", &self.answers),
             ("summary", &self.summary),
@@ -46,6 +49,7 @@ impl Buffers {
             ("series", &self.series),
             ("values", &self.values),
             ("book", &self.book),
+            ("schedules", &self.schedules),
         ]
     }
 }
@@ -53,9 +57,9 @@ impl Buffers {
 /// A whole message file through a fresh desk: 0, or the number of the refusal that ended it.
 pub type Replay = fn(&[u8], &mut Buffers) -> u64;
 
-/// How much of a book a call is lent: the figures of Q quarter hours, or all of it where it has not so many.
-pub fn lent(book: &[u64], quarters: u64) -> usize {
-    let wanted = quarters.checked_mul(BOOK_ROWS as u64);
-    let fits = wanted.filter(|&wanted| wanted <= book.len() as u64);
-    fits.map_or(book.len(), |wanted| wanted as usize)
+/// How much of a store of so many rows a call is lent: the numbers of Q quarter hours, or all of it where it has not so many.
+pub fn lent(store: &[u64], rows: u64, quarters: u64) -> usize {
+    let wanted = quarters.checked_mul(rows);
+    let fits = wanted.filter(|&wanted| wanted <= store.len() as u64);
+    fits.map_or(store.len(), |wanted| wanted as usize)
 }

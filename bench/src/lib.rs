@@ -2,12 +2,13 @@
 //!
 //! | module | what it is |
 //! |---|---|
-//! | `linked` | the host's entry that replays a message file |
+//! | `linked` | the host's entry that replays a message file, and the driver of scripts |
 //! | `amending` | a desk that amends its state and the book |
 //! | `plain` | a desk that keeps the accepted calls and works the book out anew at each |
 //! | `cause`, `series`, `row` | what the two share: causes and ranges, the table of series, a row of the book |
 //! | `reader` | the reader of the two, and a check of a whole file by it |
 //! | `replay` | a message file handed to one of the two |
+//! | `script` | a script handed to the amending desk |
 //! | `buffers` | what a replay is lent |
 //! | `compare` | desks compared on a file |
 //! | `months` | message files |
@@ -25,6 +26,7 @@ pub mod plain;
 pub mod reader;
 pub mod replay;
 pub mod row;
+pub mod script;
 pub mod series;
 pub mod stack;
 

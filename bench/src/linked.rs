@@ -1,4 +1,4 @@
-//! The host's entry for a whole message file, lent the buffers of a replay.
+//! The host's entry for a whole message file, and the script driver of `test_drive`, lent the buffers of a replay.
 
 use crate::buffers::{Buffers, SUMMARY};
 use emorizugu_tests::linked;
@@ -10,6 +10,7 @@ pub fn replay(file: &[u8], buffers: &mut Buffers) -> u64 {
         values,
         book,
         log,
+        schedules,
         series,
         answers,
         summary,
@@ -17,8 +18,22 @@ pub fn replay(file: &[u8], buffers: &mut Buffers) -> u64 {
     let mut told = [0; replay::SUMMARY];
     let (mut points, mut versions) = ([0; replay::POINTS], [0; replay::VERSIONS]);
     let tables = [&mut told[..], &mut points, &mut versions];
-    let number = linked::replay(file, values, book, log, series, answers, tables);
+    let stores = [&mut values[..], book, log, schedules];
+    let number = linked::replay(file, stores, series, answers, tables);
     let places = summary.len().min(SUMMARY);
     summary[..places].copy_from_slice(&told[..places]);
     number
+}
+
+/// A script through a fresh desk: how many places of the output are filled.
+pub fn script(script: &[u64], buffers: &mut Buffers, out: &mut [u64]) -> usize {
+    let Buffers {
+        values,
+        book,
+        log,
+        schedules,
+        ..
+    } = buffers;
+    let stores = [&mut values[..], book, log, schedules];
+    linked::script(script, stores, out) as usize
 }

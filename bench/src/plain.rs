@@ -8,15 +8,15 @@ use crate::cause::{
 };
 use crate::replay::{self, Stores};
 use crate::row;
-use crate::series::{is_group, is_series, sides, AREAS, BOOK_ROWS, DELTAS, ROWS};
+use crate::series::{is_group, is_series, sides, AREAS, BOOK_ROWS, DELTAS, GROUPS, ROWS};
 use emorizugu_tests::message::{Call, MOST_FIELDS};
 
-/// An accepted call, and the lengths of values, book and log.
+/// An accepted call, and the lengths of values, book, log and schedules.
 struct Accepted {
     kind: u64,
     fields: [u64; MOST_FIELDS],
     series: Vec<u64>,
-    lengths: [usize; 3],
+    lengths: [usize; 4],
 }
 
 /// A submitted series: its number, its status from 1 to 5, and the point's version before it.
@@ -41,7 +41,7 @@ struct Point {
 struct Month<'a> {
     quarters: u64,
     deadlines: [u64; 3],
-    lengths: [usize; 3],
+    lengths: [usize; 4],
     day: u64,
     groups: [u64; DELTAS],
     points: [Option<Point>; POINTS],
@@ -273,7 +273,8 @@ impl<'a> Month<'a> {
         day: u64,
         call: &Accepted,
     ) -> Result<(), Cause> {
-        refuse_if(call.lengths != self.lengths, Cause::WrongLength)?;
+        let other = call.lengths[..3] != self.lengths[..3];
+        refuse_if(other, Cause::WrongLength)?;
         let fits = is_point(point)
             && is_version(number)
             && day <= LAST_DAY
@@ -301,7 +302,8 @@ impl<'a> Month<'a> {
         day: u64,
         call: &Accepted,
     ) -> Result<(), Cause> {
-        refuse_if(call.lengths != self.lengths, Cause::WrongLength)?;
+        let other = call.lengths[..3] != self.lengths[..3];
+        refuse_if(other, Cause::WrongLength)?;
         let fits = is_point(point) && is_version(number) && verdict <= 1 && day <= LAST_DAY;
         refuse_if(!fits, Cause::BadField)?;
         self.check_day(day)?;
@@ -337,12 +339,13 @@ impl<'a> Month<'a> {
 fn check_unopened(call: &Accepted) -> Result<(), Cause> {
     refuse_if(call.kind != 1, Cause::NotOpen)?;
     let f = &call.fields;
-    let [_, book, log] = call.lengths;
+    let [_, book, log, schedules] = call.lengths;
     let fits = (1..=QUARTERS).contains(&f[0])
         && are_deadlines([f[1], f[2], f[3]])
         && f[4..].iter().all(|&group| is_group(group))
         && book as u64 == BOOK_ROWS as u64 * f[0]
-        && log.is_multiple_of(LOG_ROW);
+        && log.is_multiple_of(LOG_ROW)
+        && schedules as u64 == GROUPS * f[0];
     refuse_if(!fits, Cause::BadOpening)
 }
 
@@ -353,11 +356,12 @@ struct Desk {
 }
 
 impl Desk {
-    /// A call: where it is accepted, the book is worked out, and the call joins the list.
-    fn call(&mut self, call: Accepted, book: &mut [u64]) -> Result<(), Cause> {
+    /// A call: where it is accepted, the book is worked out, and the call joins the list. No call of a file lodges a schedule.
+    fn call(&mut self, call: Accepted, stores: &mut Stores) -> Result<(), Cause> {
         let month = match Month::of(&self.list) {
             None => {
                 check_unopened(&call)?;
+                stores.schedules.fill(0);
                 Month::opened(&call)
             }
             Some(mut month) => {
@@ -366,7 +370,7 @@ impl Desk {
                 month
             }
         };
-        month.work_out(book);
+        month.work_out(stores.book);
         self.list.push(call);
         Ok(())
     }
@@ -382,9 +386,9 @@ impl replay::Desk for Desk {
             kind: call.kind,
             fields: call.fields,
             series: series.to_vec(),
-            lengths: [stores.values.len(), stores.book.len(), stores.log.len()],
+            lengths: stores.lengths(),
         };
-        let answer = self.call(asked, stores.book);
+        let answer = self.call(asked, stores);
         answer.map_or_else(|cause| cause as u64, |()| 0)
     }
 

@@ -2,6 +2,7 @@
 
 use crate::buffers::{lent, Buffers, SUMMARY};
 use crate::reader::Reader;
+use crate::series::{BOOK_ROWS, GROUPS};
 use emorizugu_tests::message::{Call, Cause};
 
 /// The stores lent to a call.
@@ -12,6 +13,21 @@ pub struct Stores<'a> {
     pub book: &'a mut [u64],
     /// The log.
     pub log: &'a mut [u64],
+    /// The schedules' first numbers.
+    pub schedules: &'a mut [u64],
+}
+
+impl Stores<'_> {
+    /// The lengths of values, book, log and schedules.
+    pub fn lengths(&self) -> [usize; 4] {
+        let Stores {
+            values,
+            book,
+            log,
+            schedules,
+        } = self;
+        [values.len(), book.len(), log.len(), schedules.len()]
+    }
 }
 
 /// A desk that is handed the calls of a file.
@@ -32,6 +48,7 @@ pub fn replay(mut desk: impl Desk, file: &[u8], buffers: &mut Buffers) -> u64 {
         values,
         book,
         log,
+        schedules,
         series,
         answers,
         summary,
@@ -56,11 +73,13 @@ pub fn replay(mut desk: impl Desk, file: &[u8], buffers: &mut Buffers) -> u64 {
             1 => call.fields[0],
             _ => desk.quarters(),
         };
-        let lent = lent(book, quarters);
+        let figures = lent(book, BOOK_ROWS as u64, quarters);
+        let planned = lent(schedules, GROUPS, quarters);
         let mut stores = Stores {
             values,
-            book: &mut book[..lent],
+            book: &mut book[..figures],
             log,
+            schedules: &mut schedules[..planned],
         };
         answers[answered] = desk.handed(&call, &series[..call.count], &mut stores);
         answered += 1;

@@ -17,6 +17,7 @@ pub enum Command {
     Figures,
     Log,
     Points,
+    Report,
     Page,
     Pack,
     Print,
@@ -39,6 +40,8 @@ pub struct Wanted {
     pub command: Command,
     pub file: OsString,
     pub words: Vec<OsString>,
+    /// The text of schedules.
+    pub schedules: Option<OsString>,
     pub form: Form,
     pub run: Option<u64>,
     pub group: Option<u64>,
@@ -51,10 +54,30 @@ pub struct Wanted {
     pub last: Option<u64>,
 }
 
+impl Wanted {
+    /// Without any option.
+    fn new() -> Wanted {
+        Wanted {
+            command: Command::Overview,
+            file: OsString::new(),
+            words: Vec::new(),
+            schedules: None,
+            form: Form::Text,
+            run: None,
+            group: None,
+            all: false,
+            to: None,
+            month: None,
+            deadlines: [None, None, None],
+            last: None,
+        }
+    }
+}
+
 const DEADLINES: [&str; 3] = ["--first", "--clearing", "--correction"];
 
 /// The commands by name, each with the options that it takes.
-pub const COMMANDS: [(&str, Command, &[&str]); 11] = [
+pub const COMMANDS: [(&str, Command, &[&str]); 12] = [
     ("run", Command::Run, &["--month"]),
     (
         "figures",
@@ -71,7 +94,12 @@ pub const COMMANDS: [(&str, Command, &[&str]); 11] = [
         Command::Points,
         &["--csv", "--json", "--run", "--group", "--month"],
     ),
-    ("page", Command::Page, &["-o", "--month"]),
+    (
+        "report",
+        Command::Report,
+        &["--csv", "--json", "--run", "--group", "--all", "--month"],
+    ),
+    ("page", Command::Page, &["--schedules", "-o", "--month"]),
     ("pack", Command::Pack, &["-o", "--month"]),
     ("print", Command::Print, &["-o", "--month"]),
     ("day", Command::Day, &["--csv", "--json"]),
@@ -157,19 +185,7 @@ fn help_on(word: Option<OsString>) -> Result<Command, Failure> {
 
 /// The command that the words ask for.
 pub fn read(words: Vec<OsString>) -> Result<Wanted, Failure> {
-    let mut wanted = Wanted {
-        command: Command::Overview,
-        file: OsString::new(),
-        words: Vec::new(),
-        form: Form::Text,
-        run: None,
-        group: None,
-        all: false,
-        to: None,
-        month: None,
-        deadlines: [None, None, None],
-        last: None,
-    };
+    let mut wanted = Wanted::new();
     let mut words = words.into_iter();
     let Some(first) = words.next() else {
         return Err(Failure {
@@ -254,23 +270,36 @@ fn rest(
     named(wanted, name)
 }
 
-/// What the words are that are no options: a file, or a question to the calendar.
+/// What the words are that are no options: a file or two, or a question to the calendar.
 fn named(wanted: &mut Wanted, name: &str) -> Result<(), Failure> {
     let (words, what) = match wanted.command {
         Command::Causes => return Ok(()),
         Command::Day => (2, "a month and a date: desk day 2026-10 2026-11-12"),
         Command::Date => (2, "a month and a day number: desk date 2026-10 9"),
         Command::Calendar => (1, "one month: desk calendar 2026-10"),
+        Command::Report => (
+            2,
+            "two files, a month and its schedules: desk report month.calls month.schedules",
+        ),
         _ => (1, "one file; `-` is standard input"),
     };
     if wanted.words.len() != words {
         return Err(wrong(format!("desk {name} takes {what}")));
     }
-    if !matches!(
+    if matches!(
         wanted.command,
         Command::Day | Command::Date | Command::Calendar
     ) {
-        wanted.file = wanted.words.remove(0);
+        return Ok(());
+    }
+    wanted.file = wanted.words.remove(0);
+    if wanted.command == Command::Report {
+        wanted.schedules = wanted.words.pop();
+    }
+    if wanted.file == "-" && wanted.schedules.as_ref().is_some_and(|name| name == "-") {
+        return Err(wrong(
+            "the month and its schedules cannot both be standard input".to_string(),
+        ));
     }
     Ok(())
 }
@@ -304,6 +333,7 @@ fn word(wanted: &mut Wanted, option: &str, word: Option<OsString>) -> Result<(),
     match (deadline, word) {
         (Some(at), Some(day)) => wanted.deadlines[at] = Some(day),
         (Some(_), None) => return Err(wrong(format!("{option} takes a day number or a date"))),
+        (None, Some(file)) if option == "--schedules" => wanted.schedules = Some(file),
         (None, Some(file)) => wanted.to = Some(file),
         (None, None) => return Err(wrong(format!("{option} takes a file"))),
     }

@@ -6,6 +6,9 @@ pub const MOST_FIELDS: usize = 21;
 /// The most quarter hours of a month, and so the most energies of a series.
 pub const MOST_QUARTERS: usize = 2980;
 
+/// The largest size of an energy, in watt-hours.
+pub const MOST_ENERGY: u64 = 1_000_000_000_000;
+
 pub const OPEN: u64 = 1;
 pub const ACTIVATE: u64 = 2;
 pub const DEACTIVATE: u64 = 3;

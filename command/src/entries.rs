@@ -12,6 +12,8 @@ extern "C" {
         book_length: usize,
         log: *mut u64,
         log_length: usize,
+        schedules: *mut u64,
+        schedules_length: usize,
         series: *mut u64,
         series_length: usize,
         answers: *mut u64,
@@ -40,6 +42,33 @@ extern "C" {
         run: u64,
         group: u64,
         quarter: u64,
+    ) -> u64;
+    pub fn emorizugu_report_refusal(
+        book: *const u8,
+        length: usize,
+        schedules: *const u8,
+        schedules_length: usize,
+        quarters: u64,
+        run: u64,
+        group: u64,
+    ) -> u64;
+    pub fn emorizugu_surplus(
+        book: *const u8,
+        length: usize,
+        schedules: *const u8,
+        schedules_length: usize,
+        quarters: u64,
+        run: u64,
+        group: u64,
+    ) -> u64;
+    pub fn emorizugu_shortfall(
+        book: *const u8,
+        length: usize,
+        schedules: *const u8,
+        schedules_length: usize,
+        quarters: u64,
+        run: u64,
+        group: u64,
     ) -> u64;
     pub fn emorizugu_sum(book: *const u64, length: usize, quarters: u64, run: u64, row: u64)
         -> u64;

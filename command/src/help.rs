@@ -11,7 +11,7 @@ struct Help {
     example: &'static str,
 }
 
-const HELPS: [Help; 11] = [
+const HELPS: [Help; 12] = [
     Help {
         name: "run",
         usage: "desk run FILE [--month YYYY-MM]",
@@ -60,11 +60,37 @@ const HELPS: [Help; 11] = [
         example: "desk points examples/month.calls",
     },
     Help {
+        name: "report",
+        usage: "desk report FILE SCHEDULES [--run N] [--group N] [--all] [--month YYYY-MM] [--csv | --json]",
+        short: "each group's surplus and shortfall over the month, by its schedule",
+        body: "FILE is a month, as desk run takes it; SCHEDULES is text, one schedule a line; one of them may be -, standard input.\n\
+            In a quarter hour the surplus is the larger of 0 and schedule minus figure, the shortfall the larger of 0 and figure minus\n\
+            schedule. A report has both sums over the month, in watt-hours; the one does not cancel the other.\n\
+            \n\
+            lodge group=5 energies=52000,44000\n\
+            lodge group=6 unit=kWh energies=@plan.csv:group_6\n\
+            \n\
+            A line names a group, 1 to 64, and what it planned to take: as many energies as the month has quarter hours, each from -10^12\n\
+            to 10^12 watt-hours, written as in a submission (desk pack --help). What follows # is a comment. A schedule is lodged up to the\n\
+            clearing deadline and may be replaced: the text has what was lodged last by then, without days; where a group stands twice, the\n\
+            later line counts. A group that is not named has schedule 0. Every bad line is named, and then nothing is reported.\n\
+            \n\
+            Groups that have a schedule or a figure other than 0; with --all every one; --group picks one, whatever it has, --run a run.\n\
+            Below the list stands, for each run and over all groups, surplus less shortfall, and what it must be: the schedules less the\n\
+            outside exchange (what each run selects at points of kind exchange with the outside). Where the two differ that is said, on\n\
+            standard error too, and the exit status is 1.\n\
+            Columns: run, group, lodged (yes where the text names the group, else no), schedule, figure (each summed over the month),\n\
+            surplus, shortfall.",
+        example: "desk report examples/july.calls examples/july.schedules",
+    },
+    Help {
         name: "page",
-        usage: "desk page FILE [--month YYYY-MM] [-o PAGE]",
+        usage: "desk page FILE [--schedules SCHEDULES] [--month YYYY-MM] [-o PAGE]",
         short: "the month as one page for a browser, with no outside parts",
         body: "The month's totals, a heat map of groups over quarter hours for each run, a group's curve on click, the deltas, what each run\n\
             selects with its status and whether it is settled, points and their versions, refused calls, and the log as a timeline.\n\
+            --schedules names a text of schedules (desk report --help): surplus and shortfall of each group in both runs are then drawn and\n\
+            listed, with both sides of their sum, and the schedule stands beside a group's curve.\n\
             --month names the settled month, so that days have dates.",
         example: "desk page examples/month.calls -o month.html",
     },
@@ -149,7 +175,7 @@ const HELPS: [Help; 11] = [
 
 const STATUS: &str = "\
 Exit status: 0 all calls accepted; 1 some calls refused, or the file damaged behind answered calls, or a month, date or day
-number refused (36); 2 nothing could be run, or the output could not be written.
+number refused (36), or reports that do not add up; 2 nothing could be run, or the output could not be written.
 ";
 
 const INTENT: &str = "a month of a settlement desk: calls in, figures of the balance groups out";

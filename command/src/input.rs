@@ -53,7 +53,7 @@ pub fn shown(name: &OsStr) -> Cow<'_, str> {
 }
 
 /// The folder that names in the text are looked up in.
-fn folder(name: &OsStr) -> PathBuf {
+pub fn folder(name: &OsStr) -> PathBuf {
     match Path::new(name).parent() {
         Some(folder) if name != "-" => folder.to_path_buf(),
         _ => PathBuf::new(),
@@ -68,34 +68,57 @@ pub fn is_text(bytes: &[u8]) -> bool {
     bytes.starts_with(MARK) || first.is_some_and(|byte| byte.is_ascii_graphic())
 }
 
+/// A text without a mark in front of it.
+fn unmarked(name: &OsStr, bytes: &[u8]) -> Result<(), Failure> {
+    let mark = "begins with a byte order mark; save it as UTF-8 without one";
+    if bytes.starts_with(MARK) {
+        return Err(Failure::new(format!("{}: {mark}", shown(name))));
+    }
+    Ok(())
+}
+
+/// Bytes that are no text of another encoding.
+fn encoded(name: &OsStr, bytes: &[u8]) -> Result<(), Failure> {
+    let wide = "is text in UTF-16; save it as UTF-8 without a byte order mark";
+    if bytes.starts_with(b"\xFF\xFE") || bytes.starts_with(b"\xFE\xFF") {
+        return Err(Failure::new(format!("{}: {wide}", shown(name))));
+    }
+    Ok(())
+}
+
+/// What is wrong with each bad line of a text.
+pub fn wrong(name: &OsStr, complaints: &[String]) -> Failure {
+    let told = |complaint: &String| format!("{}: {complaint}", shown(name));
+    Failure {
+        lines: complaints.iter().map(told).collect(),
+        status: crate::NOTHING,
+    }
+}
+
+/// The bytes of a text that is no month: `what` says what it has, for bytes that are none.
+pub fn text(name: &OsStr, what: &str) -> Result<Vec<u8>, Failure> {
+    let bytes = read(name)?;
+    encoded(name, &bytes)?;
+    unmarked(name, &bytes)?;
+    if !is_text(&bytes) && !bytes.iter().all(u8::is_ascii_whitespace) {
+        return Err(Failure::new(format!("{}: is no text; {what}", shown(name))));
+    }
+    Ok(bytes)
+}
+
 /// The text's packed calls; every bad line is named at once.
 pub fn packed(wanted: &Wanted, bytes: &[u8]) -> Result<Month, Failure> {
     let name = &wanted.file;
-    let shown = shown(name).into_owned();
-    if bytes.starts_with(MARK) {
-        return Err(Failure::new(format!(
-            "{shown}: begins with a byte order mark; save it as UTF-8 without one"
-        )));
-    }
-    match text::packed(bytes, &folder(name), wanted.month) {
-        Ok(packed) => Ok(Month {
-            name: shown,
-            source: name.to_string_lossy().into_owned(),
-            settled: packed.month,
-            file: packed.file,
-            calls: packed.calls,
-        }),
-        Err(complaints) => {
-            let lines = complaints
-                .iter()
-                .map(|complaint| format!("{shown}: {complaint}"))
-                .collect();
-            Err(Failure {
-                lines,
-                status: crate::NOTHING,
-            })
-        }
-    }
+    unmarked(name, bytes)?;
+    let packed = text::packed(bytes, &folder(name), wanted.month);
+    let packed = packed.map_err(|complaints| wrong(name, &complaints))?;
+    Ok(Month {
+        name: shown(name).into_owned(),
+        source: name.to_string_lossy().into_owned(),
+        settled: packed.month,
+        file: packed.file,
+        calls: packed.calls,
+    })
 }
 
 /// The calls of a message file, as far as it is whole.
@@ -123,11 +146,7 @@ pub fn month(wanted: &Wanted) -> Result<Month, Failure> {
     if bytes.iter().all(|byte| byte.is_ascii_whitespace()) {
         return Err(Failure::new(format!("{shown}: is empty: it has no calls")));
     }
-    if bytes.starts_with(b"\xFF\xFE") || bytes.starts_with(b"\xFE\xFF") {
-        return Err(Failure::new(format!(
-            "{shown}: is text in UTF-16; save it as UTF-8 without a byte order mark"
-        )));
-    }
+    encoded(name, &bytes)?;
     if is_text(&bytes) {
         let month = packed(wanted, &bytes)?;
         if month.calls.is_empty() {

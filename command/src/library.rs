@@ -1,9 +1,12 @@
 //! The proved library's entries, each behind a safe function. They ask nothing of their caller but slices with their lengths.
 
+use std::collections::HashMap;
+
 use crate::calls::{self, MOST_FIELDS, MOST_QUARTERS};
 use crate::entries::{
     emorizugu_date, emorizugu_date_refusal, emorizugu_day, emorizugu_day_refusal,
-    emorizugu_difference, emorizugu_figure, emorizugu_read, emorizugu_replay, emorizugu_sum,
+    emorizugu_difference, emorizugu_figure, emorizugu_read, emorizugu_replay,
+    emorizugu_report_refusal, emorizugu_shortfall, emorizugu_sum, emorizugu_surplus,
     emorizugu_version, emorizugu_weekday, emorizugu_write,
 };
 
@@ -205,66 +208,121 @@ pub struct Replay {
     pub versions: Vec<Version>,
     pub log: Vec<LogRow>,
     book: Vec<u64>,
+    /// A row a group: what it planned to take. All 0 until it is lodged.
+    schedules: Vec<u64>,
+    values: Vec<u64>,
+    /// A version's row of values, by point and version.
+    rows: HashMap<(u64, u64), usize>,
+}
+
+/// What a report of a run and a group says: its surplus and its shortfall over the month, in watt-hours.
+#[derive(Clone, Copy)]
+pub struct Report {
+    pub surplus: i64,
+    pub shortfall: i64,
+}
+
+/// What a replay is lent: the desk's stores, room for a series, and places for what it tells.
+struct Lent {
+    values: Vec<u64>,
+    book: Vec<u64>,
+    log: Vec<u64>,
+    schedules: Vec<u64>,
+    series: Vec<u64>,
+    answers: Vec<u64>,
+    summary: [u64; SUMMARY],
+    points: Vec<u64>,
+    versions: Vec<u64>,
+}
+
+impl Lent {
+    /// Room for all that so many calls can use.
+    fn new(calls: usize) -> Lent {
+        Lent {
+            values: vec![0; VERSIONS * MOST_QUARTERS],
+            book: vec![0; BOOK_ROWS * MOST_QUARTERS],
+            log: vec![0; 4 * 2 * VERSIONS],
+            schedules: vec![0; GROUPS as usize * MOST_QUARTERS],
+            series: vec![0; MOST_QUARTERS],
+            answers: vec![0; calls],
+            summary: [0; SUMMARY],
+            points: vec![0; POINT_PLACES * POINTS],
+            versions: vec![0; VERSION_PLACES * VERSIONS],
+        }
+    }
+
+    /// Runs a file: 0, or the number of the reader's refusal.
+    fn run(&mut self, file: &[u8]) -> u64 {
+        unsafe {
+            emorizugu_replay(
+                file.as_ptr(),
+                file.len(),
+                self.values.as_mut_ptr(),
+                self.values.len(),
+                self.book.as_mut_ptr(),
+                self.book.len(),
+                self.log.as_mut_ptr(),
+                self.log.len(),
+                self.schedules.as_mut_ptr(),
+                self.schedules.len(),
+                self.series.as_mut_ptr(),
+                self.series.len(),
+                self.answers.as_mut_ptr(),
+                self.answers.len(),
+                self.summary.as_mut_ptr(),
+                self.summary.len(),
+                self.points.as_mut_ptr(),
+                self.points.len(),
+                self.versions.as_mut_ptr(),
+                self.versions.len(),
+            )
+        }
+    }
 }
 
 /// A whole file through a fresh desk, with room for all that it can use.
 pub fn replay(file: &[u8], calls: usize) -> Replay {
-    let mut values = vec![0; VERSIONS * MOST_QUARTERS];
-    let mut book = vec![0; BOOK_ROWS * MOST_QUARTERS];
-    let mut log = vec![0; 4 * 2 * VERSIONS];
-    let mut series = vec![0; MOST_QUARTERS];
-    let mut answers = vec![0; calls];
-    let mut summary = [0; SUMMARY];
-    let mut points = vec![0; POINT_PLACES * POINTS];
-    let mut versions = vec![0; VERSION_PLACES * VERSIONS];
-    let ending = unsafe {
-        emorizugu_replay(
-            file.as_ptr(),
-            file.len(),
-            values.as_mut_ptr(),
-            values.len(),
-            book.as_mut_ptr(),
-            book.len(),
-            log.as_mut_ptr(),
-            log.len(),
-            series.as_mut_ptr(),
-            series.len(),
-            answers.as_mut_ptr(),
-            answers.len(),
-            summary.as_mut_ptr(),
-            summary.len(),
-            points.as_mut_ptr(),
-            points.len(),
-            versions.as_mut_ptr(),
-            versions.len(),
-        )
-    };
-    let [answered, offset, quarters, logged, held, refused, _, day, first, second] = summary;
-    answers.truncate(answered as usize);
-    log.truncate(4 * logged as usize);
-    versions.truncate(VERSION_PLACES * held as usize);
-    book.truncate(BOOK_ROWS * quarters as usize);
+    let mut lent = Lent::new(calls);
+    let ending = lent.run(file);
+    let [answered, offset, quarters, logged, held, refused, _, day, first, second] = lent.summary;
+    let quarters = quarters as usize;
+    lent.answers.truncate(answered as usize);
+    lent.log.truncate(4 * logged as usize);
+    lent.versions.truncate(VERSION_PLACES * held as usize);
+    lent.book.truncate(BOOK_ROWS * quarters);
+    lent.schedules.truncate(GROUPS as usize * quarters);
     Replay {
-        answers,
+        answers: lent.answers,
         ending,
         offset: offset as usize,
-        quarters: quarters as usize,
+        quarters,
         refused,
         day,
         settled: [first == 1, second == 1],
-        points: active(&points),
-        versions: held_in_order(&versions),
-        log: log
-            .chunks_exact(4)
-            .map(|row| LogRow {
-                day: row[0],
-                point: row[1],
-                run: row[2],
-                version: row[3],
-            })
-            .collect(),
-        book,
+        points: active(&lent.points),
+        versions: held_in_order(&lent.versions),
+        log: log_rows(&lent.log),
+        book: lent.book,
+        schedules: lent.schedules,
+        values: lent.values,
+        rows: rows_of(&lent.versions),
     }
+}
+
+fn log_rows(log: &[u64]) -> Vec<LogRow> {
+    let row = |row: &[u64]| LogRow {
+        day: row[0],
+        point: row[1],
+        run: row[2],
+        version: row[3],
+    };
+    log.chunks_exact(4).map(row).collect()
+}
+
+/// Where each version's series stands.
+fn rows_of(versions: &[u64]) -> HashMap<(u64, u64), usize> {
+    let row = |row: &[u64]| ((row[0], row[1]), row[3] as usize);
+    versions.chunks_exact(VERSION_PLACES).map(row).collect()
 }
 
 /// What a run selects at a point; nothing where the number is 0.
@@ -313,6 +371,12 @@ fn held_in_order(versions: &[u64]) -> Vec<Version> {
     held
 }
 
+/// Words as bytes: where they begin, and how many they are. A word's bytes stand lowest first on the machines that the library is built for.
+fn bytes(words: &[u64]) -> (*const u8, usize) {
+    const { assert!(cfg!(target_endian = "little")) };
+    (words.as_ptr().cast(), 8 * words.len())
+}
+
 impl Replay {
     /// The versions of a point, rising.
     pub fn versions_of(&self, point: u64) -> impl DoubleEndedIterator<Item = &Version> {
@@ -323,19 +387,62 @@ impl Replay {
 
     /// A group's figure in a quarter hour, both counted from 1.
     pub fn figure(&self, run: u64, group: u64, quarter: usize) -> i64 {
-        // A word's bytes stand lowest first on the machines that the library is built for.
-        const { assert!(cfg!(target_endian = "little")) };
-        let (book, quarters) = (&self.book, self.quarters as u64);
+        let (book, length) = bytes(&self.book);
+        let quarters = self.quarters as u64;
+        unsafe { emorizugu_figure(book, length, quarters, run, group, quarter as u64) as i64 }
+    }
+
+    /// Whether a group has a figure other than 0, in any run and quarter hour.
+    pub fn has_figure(&self, group: u64) -> bool {
+        let quarters = 1..=self.quarters;
+        quarters
+            .flat_map(|quarter| [(1, quarter), (2, quarter)])
+            .any(|(run, quarter)| self.figure(run, group, quarter) != 0)
+    }
+
+    /// Puts a group's schedule, an energy for each quarter hour, in the place of the one before.
+    pub fn lodge(&mut self, group: u64, schedule: &[u64]) {
+        let start = (group as usize - 1) * self.quarters;
+        self.schedules[start..start + self.quarters].copy_from_slice(schedule);
+    }
+
+    /// The report of a run and a group, or the number of the refusal.
+    pub fn report(&self, run: u64, group: u64) -> Result<Report, u64> {
+        let (book, length) = bytes(&self.book);
+        let (plan, plan_length) = bytes(&self.schedules);
+        let q = self.quarters as u64;
         unsafe {
-            emorizugu_figure(
-                book.as_ptr().cast(),
-                8 * book.len(),
-                quarters,
-                run,
-                group,
-                quarter as u64,
-            ) as i64
+            match emorizugu_report_refusal(book, length, plan, plan_length, q, run, group) {
+                0 => Ok(Report {
+                    surplus: emorizugu_surplus(book, length, plan, plan_length, q, run, group)
+                        as i64,
+                    shortfall: emorizugu_shortfall(book, length, plan, plan_length, q, run, group)
+                        as i64,
+                }),
+                refused => Err(refused),
+            }
         }
+    }
+
+    /// The energies of a version held.
+    fn energies(&self, version: &Version) -> impl Iterator<Item = i64> + '_ {
+        let row = self.rows.get(&(version.point, version.version));
+        let start = row.map_or(self.values.len(), |row| row * self.quarters);
+        let energies = self.values[start..].iter().take(self.quarters);
+        energies.map(|word| *word as i64)
+    }
+
+    /// The outside exchange of a run over the month: the energies of the versions that it selects at points of kind 1 with partner 0. By points, versions
+    /// and values, and not by the book.
+    pub fn outside(&self, run: u64) -> i128 {
+        let borders = self
+            .points
+            .iter()
+            .filter(|point| point.kind == 1 && point.partner == 0);
+        borders
+            .filter_map(|point| point.selected[run as usize - 1])
+            .flat_map(|version| self.energies(&version).map(i128::from))
+            .sum()
     }
 
     /// The sum of a row over the month: groups 1 to 64 are rows 0 to 63, delta T is 64, areas 1 to 16 are 65 to 80.

@@ -7,16 +7,20 @@ mod calls;
 mod causes;
 mod dates;
 mod days;
+mod deviation;
 mod entries;
 mod help;
 mod input;
 mod library;
+mod lines;
 mod lists;
 mod month;
 mod numbers;
 mod output;
 mod page;
 mod refusals;
+mod report;
+mod schedules;
 mod selections;
 mod series;
 mod sheet;
@@ -28,7 +32,7 @@ use output::Failure;
 
 /// Everything was accepted.
 pub const ACCEPTED: i32 = 0;
-/// Some calls were refused, or the file is damaged behind answered calls; or a question to the calendar was refused.
+/// Some calls were refused, or the file is damaged behind answered calls; or a question to the calendar was refused; or the sums of reports do not add up.
 pub const REFUSED: i32 = 1;
 /// Nothing could be run, or the output could not be written.
 pub const NOTHING: i32 = 2;
@@ -57,6 +61,7 @@ fn perform(wanted: &Wanted) -> Result<i32, Failure> {
         Command::Figures => lists::figures(wanted),
         Command::Log => lists::log(wanted),
         Command::Points => lists::points(wanted),
+        Command::Report => report::report(wanted),
         Command::Page => page::write(wanted),
         Command::Pack => text::pack(wanted),
         Command::Print => text::print(wanted),

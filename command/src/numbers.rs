@@ -1,17 +1,53 @@
 //! Numbers as people write them: fields by number or by name, energies in watt-hours or kilowatt-hours.
 
-use crate::calls::{is_day, named, names_of};
-use crate::series::{few, Files};
+use crate::calls::{counted, is_day, named, names_of, MOST_ENERGY, MOST_QUARTERS};
+use crate::series::Files;
 
-/// What a message file can carry: fields from 0 to 2^63 - 1, energies from -2^62 to 2^62 - 1.
-const FIELDS: (i128, i128) = (0, (1 << 63) - 1);
-const ENERGIES: (i128, i128) = (-(1 << 62), (1 << 62) - 1);
+/// From where to where a number goes, and why.
+struct Range(i128, i128, &'static str);
+
+const CARRIED: &str = ", what a file can carry";
+const FIELDS: Range = Range(0, (1 << 63) - 1, CARRIED);
 
 /// The unit of a line's energies: watt-hours, or kilowatt-hours with up to three decimals.
 #[derive(Clone, Copy, PartialEq)]
 pub enum Unit {
     WattHours,
     KilowattHours,
+}
+
+/// What a series is read for, which limits its energies and their number.
+#[derive(Clone, Copy)]
+pub enum Limits {
+    /// A message file: energies from -2^62 to 2^62 - 1.
+    File,
+    /// A schedule, in a month of so many quarter hours.
+    Schedule(usize),
+}
+
+impl Limits {
+    fn energies(self) -> Range {
+        let most = MOST_ENERGY as i128;
+        match self {
+            Limits::File => Range(-(1 << 62), (1 << 62) - 1, CARRIED),
+            Limits::Schedule(_) => Range(-most, most, ", in watt-hours"),
+        }
+    }
+
+    /// The series, where it has as many energies as it may.
+    pub fn counted(self, series: Vec<u64>) -> Result<Vec<u64>, String> {
+        let energies = counted(series.len(), "energ", "y", "ies");
+        match self {
+            Limits::File if series.len() > MOST_QUARTERS => Err(format!(
+                "{energies}, and a file carries at most {MOST_QUARTERS}"
+            )),
+            Limits::Schedule(quarters) if series.len() != quarters => {
+                let month = counted(quarters, "quarter hour", "", "s");
+                Err(format!("{energies}, and the month has {month}"))
+            }
+            _ => Ok(series),
+        }
+    }
 }
 
 /// A word as complaints quote it, cut where it is long.
@@ -79,17 +115,21 @@ fn within(
     name: &str,
     word: &str,
     number: Result<i128, ()>,
-    range: (i128, i128),
+    Range(least, most, why): Range,
 ) -> Result<i128, String> {
     match number {
-        Ok(number) if range.0 <= number && number <= range.1 => Ok(number),
+        Ok(number) if least <= number && number <= most => Ok(number),
         _ => Err(format!(
-            "{name} is outside {} to {}, what a file can carry: {}",
-            range.0,
-            range.1,
+            "{name} is outside {least} to {most}{why}: {}",
             quoted(word)
         )),
     }
+}
+
+/// A number from 1 on.
+pub fn counting(name: &str, word: &str, most: u64) -> Result<u64, String> {
+    let number = whole(word).ok_or_else(|| no_number(name, word))?;
+    Ok(within(name, word, number, Range(1, most.into(), ""))? as u64)
 }
 
 /// A field's number, by its name or in digits.
@@ -114,11 +154,11 @@ pub fn field(name: &str, word: &str) -> Result<u64, String> {
 }
 
 /// An energy in watt-hours.
-pub fn energy(word: &str, unit: Unit) -> Result<u64, String> {
-    let name = "an energy";
+pub fn energy(word: &str, unit: Unit, limits: Limits) -> Result<u64, String> {
+    let (name, range) = ("an energy", limits.energies());
     if unit == Unit::WattHours {
         let number = whole(word).ok_or_else(|| no_number(name, word))?;
-        return Ok(within(name, word, number, ENERGIES)? as i64 as u64);
+        return Ok(within(name, word, number, range)? as i64 as u64);
     }
     let (front, decimals) = word.split_once('.').unwrap_or((word, "000"));
     let fits =
@@ -127,9 +167,9 @@ pub fn energy(word: &str, unit: Unit) -> Result<u64, String> {
     match whole(front) {
         Some(Ok(_)) if fits => {
             let number = joined.parse().map_err(|_| ());
-            Ok(within(name, word, number, ENERGIES)? as i64 as u64)
+            Ok(within(name, word, number, range)? as i64 as u64)
         }
-        Some(Err(())) if fits => within(name, word, Err(()), ENERGIES).map(|_| 0),
+        Some(Err(())) if fits => within(name, word, Err(()), range).map(|_| 0),
         _ => Err(format!(
             "{name} in kWh is digits with up to three decimals behind a point: {}",
             quoted(word)
@@ -138,13 +178,21 @@ pub fn energy(word: &str, unit: Unit) -> Result<u64, String> {
 }
 
 /// A line's energies: `none`, numbers with commas between, `@FILE` or `@FILE:COLUMN`.
-pub fn energies(word: &str, unit: Unit, files: &mut Files) -> Result<Vec<u64>, String> {
+pub fn energies(
+    word: &str,
+    unit: Unit,
+    limits: Limits,
+    files: &mut Files,
+) -> Result<Vec<u64>, String> {
     if let Some(source) = word.strip_prefix('@') {
-        return files.energies(source, unit);
+        return files.energies(source, unit, limits);
     }
     if word == "none" {
-        return Ok(Vec::new());
+        return limits.counted(Vec::new());
     }
-    let series: Result<_, _> = word.split(',').map(|word| energy(word, unit)).collect();
-    few(series?)
+    let series: Result<_, _> = word
+        .split(',')
+        .map(|word| energy(word, unit, limits))
+        .collect();
+    limits.counted(series?)
 }

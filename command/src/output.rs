@@ -77,12 +77,10 @@ pub fn streams() -> Result<(), Failure> {
     ignore_limit();
     let closed = [0, 1, 2].map(|stream| !is_open(stream));
     INPUT_CLOSED.store(closed[0], Ordering::Relaxed);
-    for stream in 0..3 {
-        if closed[stream] {
-            // The lowest free number is this stream's.
-            let nothing = OpenOptions::new().read(true).write(true).open("/dev/null");
-            std::mem::forget(nothing);
-        }
+    for _ in closed.iter().filter(|closed| **closed) {
+        // The lowest free number is this stream's.
+        let nothing = OpenOptions::new().read(true).write(true).open("/dev/null");
+        std::mem::forget(nothing);
     }
     if closed[1] {
         return Err(Failure::new("standard output is closed"));

@@ -2,10 +2,12 @@
 
 use crate::arguments::Wanted;
 use crate::calls::{name_in, yes, OPEN, SERIES, STATUSES};
+use crate::deviation;
 use crate::library::{Point, Replay, Version, GROUPS};
 use crate::month::{self, Ran};
 use crate::output::{self, Failure};
 use crate::refusals;
+use crate::report::{self, Reports};
 use crate::selections;
 use crate::sheet::json_word;
 use crate::summary::{changes, grouped, headline};
@@ -14,7 +16,7 @@ use crate::ACCEPTED;
 const PAGE: &str = include_str!("page.html");
 
 /// Text between tags.
-fn escaped(text: &str) -> String {
+pub fn escaped(text: &str) -> String {
     text.replace('&', "&amp;")
         .replace('<', "&lt;")
         .replace('>', "&gt;")
@@ -22,11 +24,12 @@ fn escaped(text: &str) -> String {
 }
 
 /// A cell with a number, by which its column is sorted.
-fn number(number: i64) -> String {
+pub fn number(number: i64) -> String {
     format!("<td data-n=\"{number}\">{}</td>", grouped(number))
 }
 
-fn word(word: &str) -> String {
+/// A cell with a word.
+pub fn word(word: &str) -> String {
     format!("<td class=\"word\">{}</td>", escaped(word))
 }
 
@@ -218,19 +221,29 @@ fn packed(figures: &[i64]) -> Vec<u8> {
     bytes
 }
 
+/// Figures as a word of the script's data.
+fn letters(figures: &[i64]) -> String {
+    format!("\"{}\"", base64(&packed(figures)))
+}
+
+/// A group's schedule for the script; nothing where there is none.
+fn schedule(reports: Option<&Reports>, group: u64) -> String {
+    let energies = reports.and_then(|reports| reports.schedules.of(group));
+    energies.map_or("null".to_string(), |energies| {
+        let figures: Vec<i64> = energies.iter().map(|word| *word as i64).collect();
+        letters(&figures)
+    })
+}
+
 /// The groups that have a figure other than 0, with their rows of the table and their figures for the script.
-fn groups(replay: &Replay) -> (String, String) {
+fn groups(replay: &Replay, reports: Option<&Reports>) -> (String, String) {
     let (mut rows, mut data) = (String::new(), Vec::new());
-    for group in 1..=GROUPS {
-        let run = |run: u64| -> Vec<i64> {
+    for group in (1..=GROUPS).filter(|group| replay.has_figure(*group)) {
+        let [first, second] = [1, 2].map(|run: u64| -> Vec<i64> {
             (1..=replay.quarters)
                 .map(|quarter| replay.figure(run, group, quarter))
                 .collect()
-        };
-        let (first, second) = (run(1), run(2));
-        if first.iter().chain(&second).all(|figure| *figure == 0) {
-            continue;
-        }
+        });
         let cells = number(replay.sum(1, group - 1))
             + &number(replay.sum(2, group - 1))
             + &number(replay.difference(group - 1));
@@ -241,11 +254,12 @@ fn groups(replay: &Replay) -> (String, String) {
         let other = if first == second {
             "null".to_string()
         } else {
-            format!("\"{}\"", base64(&packed(&second)))
+            letters(&second)
         };
         data.push(format!(
-            "{{\"group\":{group},\"run_1\":\"{}\",\"run_2\":{other}}}",
-            base64(&packed(&first))
+            "{{\"group\":{group},\"run_1\":{},\"run_2\":{other},\"schedule\":{}}}",
+            letters(&first),
+            schedule(reports, group)
         ));
     }
     (rows, format!("[{}]", data.join(",\n")))
@@ -266,11 +280,10 @@ fn deadlines_told(ran: &Ran) -> String {
     })
 }
 
-/// The whole page.
-pub fn page(ran: &Ran) -> String {
+/// What the script draws.
+fn data(ran: &Ran, figures: &str, reports: Option<&Reports>) -> String {
     let replay = &ran.replay;
-    let (rows, figures) = groups(replay);
-    let log_rows: Vec<String> = replay
+    let log: Vec<String> = replay
         .log
         .iter()
         .map(|row| format!("[{},{},{},{}]", row.day, row.point, row.run, row.version))
@@ -278,14 +291,22 @@ pub fn page(ran: &Ran) -> String {
     let days = deadlines(ran).map_or(String::new(), |days| {
         days.map(|day| day.to_string()).join(",")
     });
-    let data = format!(
-        "{{\"name\":{},\"quarters\":{},\"day\":{},\"deadlines\":[{}],\"log\":[{}],\"groups\":{figures}}}",
+    let deviations = reports.map_or("null".to_string(), |reports| {
+        deviation::data(replay, reports)
+    });
+    format!(
+        "{{\"name\":{},\"quarters\":{},\"day\":{},\"deadlines\":[{days}],\"log\":[{}],\"groups\":{figures},\"reports\":{deviations}}}",
         json_word(&ran.month.name),
         replay.quarters,
         replay.day,
-        days,
-        log_rows.join(",")
-    );
+        log.join(",")
+    )
+}
+
+/// The whole page.
+fn page(ran: &Ran, reports: Option<&Reports>) -> String {
+    let replay = &ran.replay;
+    let (rows, figures) = groups(replay, reports);
     let damage = ran.damage().map_or(String::new(), |damage| {
         format!("<p class=\"bad\">{}</p>", escaped(&damage))
     });
@@ -294,7 +315,9 @@ pub fn page(ran: &Ran) -> String {
     } else {
         "bad"
     };
-    filled(&[
+    let key = reports.map_or("", |_| "<i style=\"background:var(--good)\"></i>schedule");
+    let part = reports.map(|reports| deviation::part(replay, reports));
+    let texts = [
         ("title", escaped(&format!("Month of {}", ran.month.name))),
         ("mood", mood.to_string()),
         ("headline", escaped(&headline(ran))),
@@ -302,19 +325,22 @@ pub fn page(ran: &Ran) -> String {
         ("refused", refused(ran)),
         ("changes", changed(ran)),
         ("groups", rows),
+        ("key", key.to_string()),
+        ("deviation", part.unwrap_or_default()),
         ("deltas", deltas(replay)),
         ("shares", shares(replay)),
         ("selected", selected(replay)),
         ("points", points(ran)),
         ("deadlines", deadlines_told(ran)),
         ("log", log(ran)),
-        ("data", data),
-    ])
+        ("data", data(ran, &figures, reports)),
+    ];
+    filled(PAGE, &texts)
 }
 
-/// The page with a text in the place of each `{{name}}`; what is put in is not looked at again.
-fn filled(texts: &[(&str, String)]) -> String {
-    let mut parts = PAGE.split("{{");
+/// A page, or a part of one, with a text in the place of each `{{name}}`; what is put in is not looked at again.
+pub fn filled(form: &str, texts: &[(&str, String)]) -> String {
+    let mut parts = form.split("{{");
     let mut page = parts.next().unwrap_or("").to_string();
     for part in parts {
         let (name, rest) = part.split_once("}}").unwrap_or((part, ""));
@@ -327,9 +353,16 @@ fn filled(texts: &[(&str, String)]) -> String {
 
 /// `desk page`.
 pub fn write(wanted: &Wanted) -> Result<i32, Failure> {
-    let ran = month::run(wanted)?;
-    let page = page(&ran);
+    let mut ran = month::run(wanted)?;
+    // There is nothing to report on where the desk is not open.
+    let schedules = wanted.schedules.as_deref();
+    let reports = match schedules.filter(|_| ran.replay.quarters > 0) {
+        Some(name) => Some(report::of(&mut ran, name)?),
+        None => None,
+    };
+    let page = page(&ran, reports.as_ref());
     ran.warn();
+    let status = reports.map_or(ran.status(), |reports| reports.judged(&ran));
     output::deliver(&wanted.to, page.as_bytes())?;
-    Ok(ran.status())
+    Ok(status)
 }

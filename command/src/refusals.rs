@@ -3,7 +3,9 @@
 use std::collections::{BTreeMap, HashMap};
 
 use crate::calendar::{self, Month};
-use crate::calls::{counted, Call, ACTIVATE, ASSIGN, DEACTIVATE, NOTICE, OPEN, SETTLE, SUBMIT};
+use crate::calls::{
+    counted, Call, ACTIVATE, ASSIGN, DEACTIVATE, MOST_ENERGY, NOTICE, OPEN, SETTLE, SUBMIT,
+};
 use crate::causes;
 use crate::library::{Reader, VERSIONS};
 use crate::month::Ran;
@@ -466,8 +468,6 @@ impl<'a> Before<'a> {
         (wrong.join("; "), "correct what is named".to_string(), None)
     }
 }
-
-const MOST_ENERGY: u64 = 1_000_000_000_000;
 
 /// What each field may be.
 fn range(kind: u64, field: &str) -> (u64, u64) {

@@ -5,8 +5,7 @@ use std::fs;
 use std::path::{Path, PathBuf};
 use std::rc::Rc;
 
-use crate::calls::MOST_QUARTERS;
-use crate::numbers::{energy, quoted, Unit};
+use crate::numbers::{energy, quoted, Limits, Unit};
 use crate::output;
 
 /// The most line numbers that a complaint names.
@@ -19,6 +18,9 @@ struct Table {
     names: Vec<&'static str>,
     cells: Vec<&'static str>,
 }
+
+/// Cells with the lines that they stand in.
+type Cells = Vec<(usize, &'static str)>;
 
 type Kept<T> = HashMap<String, Result<T, String>>;
 
@@ -137,13 +139,10 @@ impl Table {
 }
 
 /// The energies of lines of cells, in watt-hours; the first line that does not fit is told, and which others.
-fn energies_of<'a>(
-    cells: impl Iterator<Item = (usize, &'a str)>,
-    unit: Unit,
-) -> Result<Vec<u64>, String> {
+fn energies_of(cells: Cells, unit: Unit, limits: Limits) -> Result<Vec<u64>, String> {
     let (mut series, mut wrong) = (Vec::new(), Vec::new());
     for (line, cell) in cells {
-        match energy(cell, unit) {
+        match energy(cell, unit, limits) {
             Ok(number) => series.push(number),
             Err(complaint) => wrong.push((line, complaint)),
         }
@@ -189,24 +188,31 @@ impl Files {
         kept.or_insert_with(|| Table::of(text).map(Rc::new)).clone()
     }
 
-    fn column(&mut self, name: &str, column: &str, unit: Unit) -> Result<Vec<u64>, String> {
+    /// The cells of a column.
+    fn column(&mut self, name: &str, column: &str) -> Result<Cells, String> {
         let table = self.table(name)?;
         let place = table.place(column)?;
         let rows = table.cells.chunks(table.names.len());
-        energies_of((2..).zip(rows.map(|row| row[place])), unit)
+        Ok((2..).zip(rows.map(|row| row[place])).collect())
     }
 
-    fn numbers(&mut self, name: &str, unit: Unit) -> Result<Vec<u64>, String> {
+    /// The numbers of a file with one a line.
+    fn numbers(&mut self, name: &str) -> Result<Cells, String> {
         let only = |line| first_cell(line, '\n').map_or(line, |(cell, _)| cell);
         let text = self.text(name)?;
-        energies_of(lines(text).map(|(at, line)| (at, only(line))), unit)
+        Ok(lines(text).map(|(at, line)| (at, only(line))).collect())
     }
 
     /// The energies of `FILE`, with a number a line, or of `FILE:COLUMN`.
-    pub fn energies(&mut self, source: &str, unit: Unit) -> Result<Vec<u64>, String> {
-        let (name, series) = match source.rsplit_once(':') {
-            Some((name, column)) => (name, self.column(name, column, unit)),
-            None => (source, self.numbers(source, unit)),
+    pub fn energies(
+        &mut self,
+        source: &str,
+        unit: Unit,
+        limits: Limits,
+    ) -> Result<Vec<u64>, String> {
+        let (name, cells) = match source.rsplit_once(':') {
+            Some((name, column)) => (name, self.column(name, column)),
+            None => (source, self.numbers(source)),
         };
         if name.is_empty() {
             return Err(format!(
@@ -214,18 +220,9 @@ impl Files {
                 quoted(&format!("@{source}"))
             ));
         }
-        series
-            .and_then(few)
+        cells
+            .and_then(|cells| energies_of(cells, unit, limits))
+            .and_then(|series| limits.counted(series))
             .map_err(|wrong| format!("{name}: {wrong}"))
-    }
-}
-
-/// The series, where a file can carry it.
-pub fn few(series: Vec<u64>) -> Result<Vec<u64>, String> {
-    match series.len() {
-        0..=MOST_QUARTERS => Ok(series),
-        count => Err(format!(
-            "{count} energies, and a file carries at most {MOST_QUARTERS}"
-        )),
     }
 }

@@ -1,10 +1,13 @@
 //! A list in one of its forms: columns for people, csv, or json.
 
 use crate::arguments::Form;
+use crate::summary::grouped;
 
 /// A cell.
 pub enum Cell<'a> {
     Number(i64),
+    /// A sum over the month: for people its digits are in groups of three.
+    Sum(i64),
     Word(&'a str),
     Nothing,
 }
@@ -56,7 +59,7 @@ impl Sheet {
             let _ = match self.form {
                 Form::Csv => write!(self.text, "{between}{}", csv(cell)),
                 Form::Json => write!(self.text, "{between}\"{}\":{}", column.0, json(cell)),
-                Form::Text => write!(self.text, "{}", padded(&plain(cell), column.1)),
+                Form::Text => write!(self.text, "{}", padded(&shown(cell), column.1)),
             };
         }
         if self.form == Form::Json {
@@ -78,9 +81,17 @@ impl Sheet {
     }
 }
 
+/// A cell for people.
+fn shown(cell: &Cell) -> String {
+    match cell {
+        Cell::Sum(number) => grouped(*number),
+        _ => plain(cell),
+    }
+}
+
 fn plain(cell: &Cell) -> String {
     match cell {
-        Cell::Number(number) => number.to_string(),
+        Cell::Number(number) | Cell::Sum(number) => number.to_string(),
         Cell::Word(word) => word.to_string(),
         Cell::Nothing => String::new(),
     }
@@ -88,7 +99,7 @@ fn plain(cell: &Cell) -> String {
 
 fn json(cell: &Cell) -> String {
     match cell {
-        Cell::Number(number) => number.to_string(),
+        Cell::Number(number) | Cell::Sum(number) => number.to_string(),
         Cell::Word(word) => json_word(word),
         Cell::Nothing => "null".to_string(),
     }

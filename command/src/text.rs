@@ -5,106 +5,54 @@ use std::path::Path;
 
 use crate::arguments::Wanted;
 use crate::calendar::{self, Month};
-use crate::calls::{is_day, Call, Place, DELTAS, KINDS, OPEN, SUBMIT};
+use crate::calls::{is_day, Call, Place, KINDS, OPEN, SUBMIT};
 use crate::dates::Dates;
 use crate::library::{self, Read, Reader};
-use crate::numbers::{self, quoted, Unit};
+use crate::lines::{self, unit_of, Given};
+use crate::numbers::{self, quoted, Limits};
 use crate::output::{self, Failure};
 use crate::series::Files;
 use crate::{causes, input, ACCEPTED, NOTHING, REFUSED};
 
-/// A line's fields by name, each once.
-struct Given<'a> {
-    call: &'static str,
-    fields: Vec<(&'a str, &'a str)>,
-}
-
-impl<'a> Given<'a> {
-    fn read(call: &'static str, words: &[&'a str]) -> Result<Given<'a>, String> {
-        let mut fields: Vec<(&str, &str)> = Vec::new();
-        for word in words {
-            let (name, value) = word.split_once('=').unwrap_or(("", ""));
-            if name.is_empty() || value.is_empty() {
-                let digits = word.bytes().all(|byte| byte.is_ascii_digit());
-                let hint = if digits {
-                    "; write the digits of a number together"
-                } else {
-                    ""
-                };
-                return Err(format!(
-                    "a field is written name=number: {}{hint}",
-                    quoted(word)
-                ));
-            }
-            if fields.iter().any(|(other, _)| *other == name) {
-                return Err(format!("{name} stands twice"));
-            }
-            fields.push((name, value));
-        }
-        Ok(Given { call, fields })
-    }
-
-    /// Takes a field away.
-    fn take(&mut self, name: &str) -> Option<&'a str> {
-        let at = self.fields.iter().position(|(other, _)| *other == name)?;
-        Some(self.fields.remove(at).1)
-    }
-
-    /// The numbers of the fields named; each is there, and nothing else is.
-    fn numbers(
-        mut self,
-        names: &[&str],
-        others: Option<&'a str>,
-        further: &str,
-        dates: &mut Dates,
-    ) -> Result<Vec<u64>, String> {
-        if let Some((name, _)) = self.fields.iter().find(|(name, _)| !names.contains(name)) {
-            return Err(format!(
-                "{} has no field {}; its fields are {}{further}",
-                self.call,
-                quoted(name),
-                names.join(", ")
-            ));
-        }
-        let stands = |name: &str| if DELTAS.contains(&name) { others } else { None };
-        let values: Vec<(&str, Option<&str>)> = names
-            .iter()
-            .map(|name| (*name, self.take(name).or_else(|| stands(name))))
-            .collect();
-        let missing: Vec<&str> = values
-            .iter()
-            .filter(|(_, value)| value.is_none())
-            .map(|(name, _)| *name)
-            .collect();
-        if !missing.is_empty() {
-            return Err(format!("{} lacks {}", self.call, missing.join(", ")));
-        }
-        values
-            .iter()
-            .map(|(name, value)| number(name, value.unwrap_or(""), dates))
-            .collect()
-    }
-}
-
-/// A field's number, by a date, by its name or in digits.
-fn number(name: &str, word: &str, dates: &mut Dates) -> Result<u64, String> {
-    dates
-        .number(name, word)
-        .unwrap_or_else(|| numbers::field(name, word))
-}
-
-fn unit_of(word: Option<&str>) -> Result<Unit, String> {
-    match word {
-        None | Some("Wh") => Ok(Unit::WattHours),
-        Some("kWh") => Ok(Unit::KilowattHours),
-        Some(other) => Err(format!("unit is Wh or kWh: {}", quoted(other))),
-    }
+/// The numbers of the fields named, each by a date, by its name or in digits.
+fn numbers_of<'a>(
+    given: Given<'a>,
+    names: &[&str],
+    others: Option<&'a str>,
+    further: &str,
+    dates: &mut Dates,
+) -> Result<Vec<u64>, String> {
+    let words = given.words(names, others, further)?;
+    let mut number = |name: &str, word: &str| {
+        let date = dates.number(name, word);
+        date.unwrap_or_else(|| numbers::field(name, word))
+    };
+    let fields = names.iter().zip(words);
+    fields.map(|(name, word)| number(name, word)).collect()
 }
 
 /// What a text's lines refer to: files with series, and the month of dates.
 struct Around {
     files: Files,
     dates: Dates,
+}
+
+/// A submission's fields and its energies.
+fn submission(
+    mut given: Given,
+    names: &[&str],
+    files: &mut Files,
+    dates: &mut Dates,
+) -> Result<(Vec<u64>, Vec<u64>), String> {
+    let unit = unit_of(given.take("unit"))?;
+    let series = given.take("energies");
+    let fields = numbers_of(given, names, None, ", energies, unit", dates);
+    let Some(series) = series else {
+        return Err(fields.err().unwrap_or("submit lacks energies".to_string()));
+    };
+    let fields = fields?;
+    let energies = numbers::energies(series, unit, Limits::File, files)?;
+    Ok((fields, energies))
 }
 
 /// A line's call and its energies.
@@ -128,66 +76,29 @@ fn call_of(words: &[&str], around: &mut Around) -> Result<(u64, Vec<u64>, Vec<u6
             }
             Ok((
                 kind,
-                given.numbers(form.fields, others, ", others", dates)?,
+                numbers_of(given, form.fields, others, ", others", dates)?,
                 Vec::new(),
             ))
         }
         SUBMIT => {
-            let unit = unit_of(given.take("unit"))?;
-            let series = given.take("energies");
-            let fields = given.numbers(form.fields, None, ", energies, unit", dates);
-            let Some(series) = series else {
-                return Err(fields.err().unwrap_or("submit lacks energies".to_string()));
-            };
-            Ok((kind, fields?, numbers::energies(series, unit, files)?))
+            let (fields, energies) = submission(given, form.fields, files, dates)?;
+            Ok((kind, fields, energies))
         }
         _ => Ok((
             kind,
-            given.numbers(form.fields, None, "", dates)?,
+            numbers_of(given, form.fields, None, "", dates)?,
             Vec::new(),
         )),
     }
 }
 
-/// A line in front of its comment.
-fn content(line: &[u8]) -> &[u8] {
-    line.split(|byte| *byte == b'#').next().unwrap_or(line)
-}
-
-/// The words of a line in front of its comment. A carriage return at the end is told of apart.
-fn words_of(line: &[u8]) -> Result<Vec<&str>, String> {
-    let text = std::str::from_utf8(content(line))
-        .map_err(|_| "has bytes that are no text in UTF-8, and not in a comment".to_string())?;
-    Ok(text
-        .trim_end_matches('\r')
-        .split([' ', '\t'])
-        .filter(|word| !word.is_empty())
-        .collect())
-}
-
-/// The carriage returns of a text, told at the first.
-fn returns(text: &[u8]) -> Option<(usize, String)> {
-    let mut lines = text.split(|byte| *byte == b'\n').zip(1..);
-    let has = |(line, _): &(&[u8], usize)| content(line).contains(&b'\r');
-    let (_, first) = lines.find(has)?;
-    let others = match lines.filter(has).count() {
-        0 => String::new(),
-        others => format!(", as {} lines have", others + 1),
-    };
-    Some((
-        first,
-        format!("has a carriage return{others}; line ends are line feeds alone"),
-    ))
-}
-
 /// The call of a line, written behind the bytes of a file; a line without words has none, and one that names the month.
 fn packed_line(
-    line: &[u8],
+    words: &[&str],
     place: Place,
     file: &mut Vec<u8>,
     around: &mut Around,
 ) -> Result<Option<Call>, String> {
-    let words = words_of(line)?;
     around.dates.at = place.line;
     match words[..] {
         [] => return Ok(None),
@@ -195,7 +106,7 @@ fn packed_line(
         [word, ..] if word.starts_with("month=") => return around.dates.name(&[]).map(|()| None),
         _ => {}
     }
-    let (kind, fields, energies) = call_of(&words, around)?;
+    let (kind, fields, energies) = call_of(words, around)?;
     library::write(kind, &fields, &energies, file).map_err(causes::meaning)?;
     Ok(Some(Call {
         place,
@@ -219,26 +130,21 @@ pub fn packed(text: &[u8], folder: &Path, asked: Option<Month>) -> Result<Packed
         files: Files::new(folder),
         dates: Dates::new(asked),
     };
-    let mut complaints: Vec<(usize, String)> = returns(text).into_iter().collect();
-    for (line, number) in text.split(|byte| *byte == b'\n').zip(1..) {
+    let mut complaints = lines::each(text, |line, words| {
         let place = Place {
-            line: number,
+            line,
             number: calls.len() + 1,
             offset: file.len(),
         };
-        match packed_line(line, place, &mut file, &mut around) {
-            Ok(call) => calls.extend(call),
-            Err(wrong) => complaints.push((number, wrong)),
-        }
-    }
+        calls.extend(packed_line(words, place, &mut file, &mut around)?);
+        Ok(())
+    });
     complaints.extend(around.dates.complaint());
     if complaints.is_empty() {
         let month = around.dates.month();
         return Ok(Packed { file, calls, month });
     }
-    complaints.sort_by_key(|(line, _)| *line);
-    let told = |(line, wrong)| format!("line {line}: {wrong}");
-    Err(complaints.into_iter().map(told).collect())
+    Err(lines::told(complaints))
 }
 
 /// `desk pack`.

@@ -1,11 +1,11 @@
-//! The nine calls, with their fields as a caller hands them over: any 64-bit numbers.
+//! The eleven calls, with their fields as a caller hands them over: any 64-bit numbers.
 
 use std::fmt;
 
 /// Delta groups of an opening: T, then areas 1 to 16.
 pub const DELTAS: usize = 17;
 
-/// A call. The fields have the names and the order of document 01; energies are words in two's complement.
+/// A call. The fields have the names and the order of documents 01 and 02; energies are words in two's complement.
 #[derive(Clone, Debug, PartialEq, Eq)]
 #[allow(missing_docs)]
 pub enum Call {
@@ -56,10 +56,19 @@ pub enum Call {
         run: u64,
         day: u64,
     },
+    Lodge {
+        group: u64,
+        day: u64,
+        series: Vec<u64>,
+    },
+    Report {
+        run: u64,
+        group: u64,
+    },
 }
 
-/// The calls' names and the names of their fields, in the order of the paper.
-const NAMES: [(&str, &[&str]); 9] = [
+/// The calls' names and the names of their fields, in the order of the papers.
+const NAMES: [(&str, &[&str]); 11] = [
     ("open", &["Q", "F", "C", "K"]),
     ("activate", &["point", "kind", "area", "partner", "day"]),
     ("deactivate", &["point", "day"]),
@@ -69,10 +78,12 @@ const NAMES: [(&str, &[&str]); 9] = [
     ("show", &["run", "group"]),
     ("status", &["point", "version"]),
     ("settle", &["run", "day"]),
+    ("lodge", &["group", "day"]),
+    ("report", &["run", "group"]),
 ];
 
 impl Call {
-    /// The call's place in the building order, 1 to 9.
+    /// The call's place in the building order of document 01, 1 to 9; document 02's lodge is 10, its report 11.
     pub fn number(&self) -> u64 {
         match self {
             Call::Open { .. } => 1,
@@ -84,6 +95,8 @@ impl Call {
             Call::Show { .. } => 7,
             Call::Status { .. } => 8,
             Call::Settle { .. } => 9,
+            Call::Lodge { .. } => 10,
+            Call::Report { .. } => 11,
         }
     }
 
@@ -92,7 +105,7 @@ impl Call {
         NAMES[self.number() as usize - 1].0
     }
 
-    /// The fields in their order; then the 17 groups of an opening, or the energies of a submission.
+    /// The fields in their order; then the 17 groups of an opening, or the energies of a submission or a lodging.
     pub fn fields(&self) -> Vec<u64> {
         match *self {
             Call::Open {
@@ -126,6 +139,12 @@ impl Call {
             Call::Show { run, group } => vec![run, group],
             Call::Status { point, version } => vec![point, version],
             Call::Settle { run, day } => vec![run, day],
+            Call::Lodge {
+                group,
+                day,
+                ref series,
+            } => [&[group, day], &series[..]].concat(),
+            Call::Report { run, group } => vec![run, group],
         }
     }
 
@@ -163,6 +182,12 @@ impl Call {
             (7, &[run, group]) => Call::Show { run, group },
             (8, &[point, version]) => Call::Status { point, version },
             (9, &[run, day]) => Call::Settle { run, day },
+            (10, &[group, day, ref series @ ..]) => Call::Lodge {
+                group,
+                day,
+                series: series.to_vec(),
+            },
+            (11, &[run, group]) => Call::Report { run, group },
             _ => return None,
         })
     }
@@ -175,8 +200,34 @@ impl Call {
             | Call::Submit { day, .. }
             | Call::Notice { day, .. }
             | Call::Assign { day, .. }
-            | Call::Settle { day, .. } => Some(day),
-            Call::Open { .. } | Call::Show { .. } | Call::Status { .. } => None,
+            | Call::Settle { day, .. }
+            | Call::Lodge { day, .. } => Some(day),
+            Call::Open { .. } | Call::Show { .. } | Call::Status { .. } | Call::Report { .. } => {
+                None
+            }
+        }
+    }
+
+    /// The call's energies, if it has some: they stand behind its other fields.
+    pub fn energies(&self) -> Option<&[u64]> {
+        match self {
+            Call::Submit { series, .. } | Call::Lodge { series, .. } => Some(series),
+            _ => None,
+        }
+    }
+
+    /// Which of values, book, log and schedules the call takes.
+    pub fn takes(&self) -> [bool; 4] {
+        match self {
+            Call::Open { .. } => [true; 4],
+            Call::Submit { .. } | Call::Notice { .. } => [true, true, true, false],
+            Call::Assign { .. } | Call::Show { .. } => [false, true, false, false],
+            Call::Lodge { .. } => [false, false, false, true],
+            Call::Report { .. } => [false, true, false, true],
+            Call::Activate { .. }
+            | Call::Deactivate { .. }
+            | Call::Status { .. }
+            | Call::Settle { .. } => [false; 4],
         }
     }
 
@@ -204,7 +255,7 @@ impl fmt::Display for Call {
         let more = &fields[names.len()..];
         match self {
             Call::Open { .. } => write!(f, " groups {more:?}"),
-            Call::Submit { .. } => {
+            Call::Submit { .. } | Call::Lodge { .. } => {
                 let energies: Vec<i64> = more.iter().map(|&word| word as i64).collect();
                 write!(f, " energies {energies:?}")
             }
@@ -214,7 +265,7 @@ impl fmt::Display for Call {
 }
 
 /// Lengths of the stores that are lent to a call.
-#[derive(Clone, Copy, Debug, PartialEq, Eq)]
+#[derive(Clone, Copy, Debug, Default, PartialEq, Eq)]
 pub struct Lengths {
     /// Places of the values.
     pub values: u64,
@@ -222,6 +273,8 @@ pub struct Lengths {
     pub book: u64,
     /// Places of the log.
     pub log: u64,
+    /// Places of the schedules.
+    pub schedules: u64,
 }
 
 impl Lengths {
@@ -231,13 +284,22 @@ impl Lengths {
             values: self.values.min(most.values),
             book: self.book.min(most.book),
             log: self.log.min(most.log),
+            schedules: self.schedules.min(most.schedules),
         }
+    }
+
+    /// The lengths of values, book, log and schedules.
+    pub fn each(self) -> [u64; 4] {
+        [self.values, self.book, self.log, self.schedules]
     }
 }
 
 impl fmt::Display for Lengths {
     fn fmt(&self, f: &mut fmt::Formatter) -> fmt::Result {
-        let Lengths { values, book, log } = self;
-        write!(f, "lent values {values} book {book} log {log}")
+        let [values, book, log, schedules] = self.each();
+        write!(
+            f,
+            "lent values {values} book {book} log {log} schedules {schedules}"
+        )
     }
 }

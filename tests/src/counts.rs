@@ -2,8 +2,9 @@
 //! that is easy to get wrong.
 
 use crate::call::{Call, Lengths};
-use crate::desk::{Answer, Desk, LOG_ROW, MOST_VERSIONS};
+use crate::desk::{other_lengths, Answer, Desk, LOG_ROW, MOST_VERSIONS};
 use crate::notices;
+use crate::schedules;
 use crate::tally::Tally;
 use crate::worked::{Month, Point, Version};
 
@@ -12,12 +13,19 @@ pub fn called(tally: &mut Tally, desk: &mut Desk, call: &Call, lent: Lengths) ->
     let calls = desk.list().len();
     let answer = desk.call(call, lent);
     let before = Month::of(&desk.list()[..calls]);
+    if let Some(before) = &before {
+        let list = &desk.list()[..calls];
+        schedules::count(tally, list, before, (call, lent), &answer);
+    }
     match (&answer, &before) {
-        (Answer::Refused(number), None) => count_unopened(tally, call, *number),
+        (Answer::Refused(number), None) => {
+            count_unopened(tally, call, *number);
+            schedules::count_unopened(tally, call, lent, *number);
+        }
         (Answer::Refused(number), Some(before)) => {
             tally.add(call.name(), *number);
             notices::count(tally, before, call, *number);
-            count_refused(tally, before, lent, *number);
+            count_refused(tally, before, call, lent, *number);
         }
         (Answer::Status(status), _) => tally.add("status given", *status),
         (_, None) => tally.add(call.name(), 0),
@@ -35,30 +43,22 @@ pub fn called(tally: &mut Tally, desk: &mut Desk, call: &Call, lent: Lengths) ->
 fn count_unopened(tally: &mut Tally, call: &Call, number: u64) {
     match call {
         Call::Open { .. } => tally.add(call.name(), number),
-        _ => tally.add("desk not open", number),
+        _ => {
+            tally.add("desk not open", number);
+            tally.add("call to a desk not open", call.number());
+        }
     }
 }
 
-fn count_refused(tally: &mut Tally, before: &Month, lent: Lengths, number: u64) {
-    let right = before.lengths;
+fn count_refused(tally: &mut Tally, before: &Month, call: &Call, lent: Lengths, number: u64) {
     match number {
-        2 if lent
-            == (Lengths {
-                values: lent.values,
-                ..right
-            }) =>
-        {
-            tally.add("values of another length", 2)
-        }
-        2 if lent
-            == (Lengths {
-                log: lent.log,
-                ..right
-            }) =>
-        {
-            tally.add("log of another length", 2)
-        }
-        2 => tally.add("book of another length", 2),
+        2 => match other_lengths(call, lent, before.lengths)[..] {
+            [0] => tally.add("values of another length", 2),
+            [1] => tally.add("book of another length", 2),
+            [2] => tally.add("log of another length", 2),
+            [3] => tally.add("schedules of another length", 2),
+            _ => tally.add("stores of another length", 2),
+        },
         16 if before.rows.len() == MOST_VERSIONS => tally.add("512 versions held", 16),
         16 => tally.add("next row exceeds values", 16),
         _ => {}

@@ -26,7 +26,7 @@ pub struct Field {
 }
 
 /// Every field of the state.
-pub const FIELDS: [Field; 21] = [
+pub const FIELDS: [Field; 22] = [
     Field::of("quarters", quarters),
     Field::of("first delivery", first),
     Field::of("clearing", clearing),
@@ -34,6 +34,7 @@ pub const FIELDS: [Field; 21] = [
     Field::of("length of values", values),
     Field::of("length of book", book),
     Field::of("length of log", log),
+    Field::of("length of schedules", schedules),
     Field::of("day", day),
     Field::of("delta group", delta_group),
     Field::of("version count", version_count),
@@ -81,6 +82,7 @@ pub fn undone(month: &Month, damage: &Damage) -> Damage {
         10 => month.rows.len() as u64,
         11 => month.log.len() as u64,
         12 | 13 => u64::from(settled[which as usize - 12]),
+        17 => lengths.schedules,
         14 | 15 => return point_as_it_is(month, place),
         16 => return version(place, version_as_it_is(month, place)),
         _ => 0,
@@ -154,12 +156,13 @@ fn number(which: u64, inside: &[u64], outside: &[u64]) -> Limits {
     }
 }
 
-/// The book's length goes with Q, and values of any length hold every row.
+/// The lengths of book and schedules go with Q, and values of any length hold every row.
 fn quarters(month: &Month) -> Limits {
     let whole = |quarters: u64| {
         vec![
             set(1, quarters),
             set(6, quarters.wrapping_mul(162)),
+            set(17, quarters.wrapping_mul(64)),
             set(5, u64::MAX),
         ]
     };
@@ -174,6 +177,8 @@ fn quarters(month: &Month) -> Limits {
             whole(u64::MAX),
             vec![set(1, q + 1)],
             vec![set(1, u64::MAX)],
+            vec![set(1, q + 1), set(6, 162 * (q + 1)), set(5, u64::MAX)],
+            vec![set(1, q + 1), set(17, 64 * (q + 1)), set(5, u64::MAX)],
         ],
     }
 }
@@ -211,6 +216,12 @@ fn log(month: &Month) -> Limits {
         outside.extend([used - 1, used - LOG_ROW]);
     }
     number(7, &[used, used + LOG_ROW, u64::MAX - 3], &outside)
+}
+
+fn schedules(month: &Month) -> Limits {
+    let right = 64 * month.quarters;
+    let outside = [right - 1, right + 1, right - 64, right + 64, 0, u64::MAX];
+    number(17, &[right], &outside)
 }
 
 fn day(_: &Month) -> Limits {

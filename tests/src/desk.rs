@@ -1,7 +1,7 @@
 //! The plain desk: it keeps the list of the accepted calls, and works everything else out from it.
 
 use crate::call::{Call, Lengths};
-use crate::worked::{signed, Month, ROWS};
+use crate::worked::{signed, Month, GROUPS, ROWS};
 use std::iter::once;
 
 /// The numbers of the table of causes, in its order.
@@ -26,6 +26,8 @@ pub enum Answer {
     Status(u64),
     /// 0, and the group's figures.
     Row(Vec<i128>),
+    /// 0, and the group's surplus and shortfall over the month.
+    Sums([i128; 2]),
 }
 
 impl Answer {
@@ -33,7 +35,7 @@ impl Answer {
     pub fn number(&self) -> u64 {
         match *self {
             Answer::Refused(number) | Answer::Status(number) => number,
-            Answer::Accepted | Answer::Row(_) => 0,
+            Answer::Accepted | Answer::Row(_) | Answer::Sums(_) => 0,
         }
     }
 }
@@ -82,8 +84,7 @@ impl Desk {
         };
         let active = call.point().and_then(|point| month.points.get(&point));
         match (number, call) {
-            (2, Call::Submit { .. } | Call::Notice { .. }) => lent != month.lengths,
-            (2, Call::Assign { .. } | Call::Show { .. }) => lent.book != month.lengths.book,
+            (2, _) => !other_lengths(call, lent, month.lengths).is_empty(),
             (3, _) => !in_range(call, month.quarters),
             (6, Call::Open { .. }) => true,
             (5, _) => call.day().is_some_and(|day| day < month.day),
@@ -94,7 +95,7 @@ impl Desk {
                 | Call::Submit { day, .. }
                 | Call::Notice { day, .. },
             ) => *day > month.correction,
-            (26, Call::Assign { day, .. }) => *day > month.clearing,
+            (26, Call::Assign { day, .. } | Call::Lodge { day, .. }) => *day > month.clearing,
             (21, Call::Activate { .. }) => active.is_some(),
             (
                 22,
@@ -152,6 +153,17 @@ impl Desk {
     }
 }
 
+/// The stores that the call takes in another length than at the opening: values 0, book 1, log 2, schedules 3. An opening has
+/// none: what is wrong there is cause 4.
+pub fn other_lengths(call: &Call, lent: Lengths, opened: Lengths) -> Vec<usize> {
+    let (takes, lent, opened) = (call.takes(), lent.each(), opened.each());
+    let other = |&store: &usize| takes[store] && lent[store] != opened[store];
+    match call {
+        Call::Open { .. } => vec![],
+        _ => (0..takes.len()).filter(other).collect(),
+    }
+}
+
 /// The answer to an accepted call.
 fn granted(month: Option<&Month>, call: &Call) -> Answer {
     match (call, month) {
@@ -163,6 +175,9 @@ fn granted(month: Option<&Month>, call: &Call) -> Answer {
             let quarters = month.quarters as usize;
             let start = (*group as usize - 1) * quarters;
             Answer::Row(month.figures(*run)[start..start + quarters].to_vec())
+        }
+        (Call::Report { run, group }, Some(month)) => {
+            Answer::Sums(month.report(&month.figures(*run), *group))
         }
         _ => Answer::Accepted,
     }
@@ -188,10 +203,11 @@ fn may_open(call: &Call, lent: Lengths) -> bool {
         && groups.iter().all(|group| (1..=64).contains(group))
         && lent.book == 2 * ROWS as u64 * quarters
         && lent.log.is_multiple_of(LOG_ROW)
+        && lent.schedules == GROUPS * quarters
 }
 
 /// Whether every field is in its range, the series has Q energies, and none of them is too large.
-fn in_range(call: &Call, quarters: u64) -> bool {
+pub fn in_range(call: &Call, quarters: u64) -> bool {
     let point = call.point().is_none_or(|point| (1..=256).contains(&point));
     let day = call.day().is_none_or(|day| day <= 400);
     point
@@ -205,15 +221,17 @@ fn in_range(call: &Call, quarters: u64) -> bool {
             } => is_series(*kind, *area, *partner),
             Call::Submit {
                 version, series, ..
-            } => {
-                let small = |&word: &u64| signed(word).abs() <= 1_000_000_000_000;
-                is_version(*version) && series.len() as u64 == quarters && series.iter().all(small)
-            }
+            } => is_version(*version) && are_energies(series, quarters),
             Call::Notice {
                 version, verdict, ..
             } => is_version(*version) && *verdict <= 1,
             Call::Assign { area, group, .. } => *area <= 16 && (1..=64).contains(group),
-            Call::Show { run, group } => (1..=2).contains(run) && (1..=64).contains(group),
+            Call::Show { run, group } | Call::Report { run, group } => {
+                (1..=2).contains(run) && (1..=64).contains(group)
+            }
+            Call::Lodge { group, series, .. } => {
+                (1..=64).contains(group) && are_energies(series, quarters)
+            }
             Call::Status { version, .. } => is_version(*version),
             Call::Settle { run, .. } => (1..=2).contains(run),
             Call::Open { .. } | Call::Deactivate { .. } => true,
@@ -231,6 +249,12 @@ pub fn is_series(kind: u64, area: u64, partner: u64) -> bool {
         4 => area == 0 && is_group,
         _ => false,
     }
+}
+
+/// Whether they are Q energies, and none of them is too large.
+fn are_energies(series: &[u64], quarters: u64) -> bool {
+    let small = |&word: &u64| signed(word).abs() <= 1_000_000_000_000;
+    series.len() as u64 == quarters && series.iter().all(small)
 }
 
 fn is_version(number: u64) -> bool {

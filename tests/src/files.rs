@@ -15,7 +15,9 @@ pub type Parts = Vec<Vec<u8>>;
 /// A call as a file carries it; none where no file can.
 pub fn carried(call: &Call) -> Option<generator::Call> {
     let kind = match call {
-        Call::Show { .. } | Call::Status { .. } => return None,
+        Call::Show { .. } | Call::Status { .. } | Call::Lodge { .. } | Call::Report { .. } => {
+            return None
+        }
         Call::Settle { .. } => 7,
         _ => call.number(),
     };
@@ -34,7 +36,7 @@ pub fn carried(call: &Call) -> Option<generator::Call> {
 pub fn calls(month: &Trial) -> Vec<generator::Call> {
     let call = |step: &Step| match step {
         Step::Call(call, _) => carried(call),
-        Step::Damaged { .. } => None,
+        Step::Damaged { .. } | Step::Write(_) => None,
     };
     month.steps.iter().filter_map(call).collect()
 }

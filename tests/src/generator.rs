@@ -449,9 +449,19 @@ pub(crate) fn bytes_changed(random: &mut Random, call: &Call, shape: Shape) -> V
     number_changed(random, shape, &File::one(call)).0
 }
 
-/// A book for so many quarter hours: figures at the ends of the 64-bit range, about 0, and any others.
+/// A book for so many quarter hours, with any numbers.
 pub fn book(random: &mut Random, quarters: usize) -> Vec<u8> {
-    let mut figure = || {
+    numbers(random, 2 * 81 * quarters)
+}
+
+/// Schedules for so many quarter hours, with any numbers.
+pub fn schedules(random: &mut Random, quarters: usize) -> Vec<u8> {
+    numbers(random, 64 * quarters)
+}
+
+/// So many numbers as bytes: at the ends of the 64-bit range, about 0, and any others.
+fn numbers(random: &mut Random, numbers: usize) -> Vec<u8> {
+    let mut number = || {
         let edge = random.of(&[i64::MIN, i64::MAX, -1, 0, 1, 256_000_000_000_000]);
         if random.once_in(2) {
             edge as u64
@@ -459,6 +469,5 @@ pub fn book(random: &mut Random, quarters: usize) -> Vec<u8> {
             random.word()
         }
     };
-    let figures = 2 * 81 * quarters;
-    (0..figures).flat_map(|_| figure().to_le_bytes()).collect()
+    (0..numbers).flat_map(|_| number().to_le_bytes()).collect()
 }

@@ -1,12 +1,13 @@
-//! A second implementation of document 01 and of document 02's calendar, statuses and notices, written from the papers
-//! alone, and what its comparison with the proved libraries needs. The comparisons themselves stand in `tests/`, one file for
-//! each thing compared.
+//! A second implementation of document 01 and of document 02's calendar, statuses, notices and schedules, written from the
+//! papers alone, and what its comparison with the proved libraries needs. The comparisons themselves stand in `tests/`, one file
+//! for each thing compared.
 //!
 //! | module | what it is |
 //! |---|---|
 //! | `message` | second implementation: reader and writer of the message file |
 //! | `figure` | second implementation: the figure in a book of bytes |
-//! | `call` | the nine calls and their fields |
+//! | `report` | second implementation: the report on a book and schedules that may hold anything |
+//! | `call` | the eleven calls and their fields |
 //! | `desk`, `worked` | second implementation: the plain desk, and what its list of calls says |
 //! | `replay` | second implementation: a whole file through the plain desk |
 //! | `calendar` | second implementation: working days, and dates as day numbers |
@@ -21,6 +22,7 @@
 //! | `compare` | a month with both desks, and the shortest list of calls where they differ |
 //! | `counts` | which cases the compared calls and selected versions were |
 //! | `notices` | which cases the compared notices were, and what they come to on a desk that was fresh |
+//! | `schedules` | which cases the compared lodgings and reports were, and what the deviations of all groups add up to |
 //! | `tally` | how often each answer was compared |
 
 #![warn(missing_docs)]
@@ -42,6 +44,8 @@ pub mod numbers;
 mod pick;
 pub mod program;
 pub mod replay;
+pub mod report;
+pub mod schedules;
 pub mod script;
 pub mod tally;
 pub mod worked;

@@ -8,7 +8,8 @@ use crate::calendar::{Date, Month};
 use entries::{
     emorizugu_date, emorizugu_date_refusal, emorizugu_day, emorizugu_day_refusal, emorizugu_figure,
     emorizugu_figure_refusal, emorizugu_file_offset, emorizugu_file_refusal, emorizugu_read,
-    emorizugu_replay, emorizugu_weekday, emorizugu_write,
+    emorizugu_replay, emorizugu_report_refusal, emorizugu_shortfall, emorizugu_surplus,
+    emorizugu_weekday, emorizugu_write,
 };
 
 extern "C" {
@@ -21,6 +22,8 @@ extern "C" {
         book_len: usize,
         log: *mut u64,
         log_len: usize,
+        schedules: *mut u64,
+        schedules_len: usize,
         out: *mut u64,
         out_len: usize,
     ) -> u64;
@@ -46,16 +49,30 @@ pub fn figure(book: &[u8], quarters: u64, run: u64, group: u64, quarter: u64) ->
     unsafe { emorizugu_figure(book.as_ptr(), book.len(), quarters, run, group, quarter) }
 }
 
-/// `emorizugu_replay`; the tables are summary, points and versions.
+/// `emorizugu_report_refusal`.
+pub fn report_refusal(book: &[u8], schedules: &[u8], quarters: u64, run: u64, group: u64) -> u64 {
+    let (lent, length) = (schedules.as_ptr(), schedules.len());
+    let book = (book.as_ptr(), book.len());
+    unsafe { emorizugu_report_refusal(book.0, book.1, lent, length, quarters, run, group) }
+}
+
+/// `emorizugu_surplus` and `emorizugu_shortfall`.
+pub fn report(book: &[u8], schedules: &[u8], quarters: u64, run: u64, group: u64) -> [u64; 2] {
+    let (lent, length) = (schedules.as_ptr(), schedules.len());
+    let book = (book.as_ptr(), book.len());
+    [emorizugu_surplus, emorizugu_shortfall]
+        .map(|sum| unsafe { sum(book.0, book.1, lent, length, quarters, run, group) })
+}
+
+/// `emorizugu_replay`; the stores are values, book, log and schedules, the tables summary, points and versions.
 pub fn replay(
     file: &[u8],
-    values: &mut [u64],
-    book: &mut [u64],
-    log: &mut [u64],
+    stores: [&mut [u64]; 4],
     series: &mut [u64],
     answers: &mut [u64],
     tables: [&mut [u64]; 3],
 ) -> u64 {
+    let [values, book, log, schedules] = stores;
     let [summary, points, versions] = tables;
     unsafe {
         emorizugu_replay(
@@ -67,6 +84,8 @@ pub fn replay(
             book.len(),
             log.as_mut_ptr(),
             log.len(),
+            schedules.as_mut_ptr(),
+            schedules.len(),
             series.as_mut_ptr(),
             series.len(),
             answers.as_mut_ptr(),
@@ -138,14 +157,9 @@ pub fn weekday(date: Date) -> u64 {
     unsafe { emorizugu_weekday(date.0, date.1, date.2) }
 }
 
-/// `drive_script`.
-pub fn script(
-    script: &[u64],
-    values: &mut [u64],
-    book: &mut [u64],
-    log: &mut [u64],
-    out: &mut [u64],
-) -> u64 {
+/// `drive_script`; the stores are values, book, log and schedules.
+pub fn script(script: &[u64], stores: [&mut [u64]; 4], out: &mut [u64]) -> u64 {
+    let [values, book, log, schedules] = stores;
     unsafe {
         drive_script(
             script.as_ptr(),
@@ -156,6 +170,8 @@ pub fn script(
             book.len(),
             log.as_mut_ptr(),
             log.len(),
+            schedules.as_mut_ptr(),
+            schedules.len(),
             out.as_mut_ptr(),
             out.len(),
         )

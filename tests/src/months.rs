@@ -7,19 +7,21 @@ use crate::damage::FIELDS;
 use crate::desk::Desk;
 use crate::generator::Random;
 use crate::pick::Pick;
+use crate::script::Write;
+use crate::worked::{Month, GROUPS, ROWS};
 
 /// What a month is like.
 #[derive(Clone, Copy, Debug, PartialEq, Eq)]
 pub enum Size {
-    /// Some 60 calls.
+    /// Some 70 calls.
     Short,
     /// So many submissions that 512 versions are held.
     Versions,
     /// So many activations that 256 points are active.
     Points,
-    /// Some 60 calls in a month of so many quarter hours.
+    /// Some 70 calls in a month of so many quarter hours.
     Quarters(u64),
-    /// Some 60 calls in a month of so many quarter hours, of which mostly both runs are settled.
+    /// Some 70 calls in a month of so many quarter hours, of which mostly both runs are settled.
     Settled(u64),
 }
 
@@ -62,7 +64,26 @@ pub const SPARE: Lengths = Lengths {
     values: 5,
     book: 165,
     log: 8,
+    schedules: 67,
 };
+
+/// A schedule and a figure whose difference is at the end of the 64-bit range or beyond it, or 0.
+const PAIRS: [(i64, i64); 14] = [
+    (i64::MAX, -1),
+    (i64::MAX, 0),
+    (i64::MAX, -2),
+    (i64::MAX, i64::MIN),
+    (i64::MAX, i64::MAX),
+    (i64::MIN, 0),
+    (i64::MIN, 1),
+    (i64::MIN, i64::MAX),
+    (i64::MIN, i64::MIN),
+    (0, i64::MIN),
+    (0, i64::MAX),
+    (-1, i64::MAX),
+    (-2, i64::MAX),
+    (1, i64::MIN + 1),
+];
 
 /// What the calls of a month are chosen from.
 pub(crate) struct Plan {
@@ -82,7 +103,7 @@ pub(crate) struct Plan {
 pub fn month(random: &mut Random, size: Size) -> Trial {
     let plan = plan(random, size);
     let calls = match size {
-        Size::Short | Size::Quarters(_) | Size::Settled(_) => 40 + random.below(41),
+        Size::Short | Size::Quarters(_) | Size::Settled(_) => 46 + random.below(47),
         Size::Versions => 690 + random.below(40),
         Size::Points => 440 + random.below(260),
     };
@@ -106,7 +127,67 @@ pub fn month(random: &mut Random, size: Size) -> Trial {
         }
         trial.steps.push(step);
     }
+    if random.once_in(4) {
+        let written = written(random, &plan, desk);
+        trial.steps.extend(written);
+    }
     trial
+}
+
+/// Somebody else writes in the stores of an open desk; shows, reports, lodgings and statuses between and behind.
+fn written(random: &mut Random, plan: &Plan, mut desk: Desk) -> Vec<Step> {
+    let mut steps = Vec::new();
+    for _ in 0..1 + random.below(3) {
+        let Some(month) = desk.month() else {
+            return vec![];
+        };
+        let (run, group) = (1 + random.below(2) as u64, random.of(&plan.groups));
+        steps.extend(writes(random, plan, &month, (run, group)).map(Step::Write));
+        let mut pick = Pick {
+            random,
+            plan,
+            month: &month,
+            planned: month.day,
+        };
+        let (asked, lent) = pick.asked();
+        steps.push(Step::Call(Call::Report { run, group }, month.lengths));
+        steps.push(Step::Call(asked.clone(), lent));
+        desk.call(&asked, lent);
+    }
+    steps
+}
+
+/// Numbers in some quarter hours of a group's schedule and of its figures in a run, and in any places.
+fn writes(
+    random: &mut Random,
+    plan: &Plan,
+    month: &Month,
+    (run, group): (u64, u64),
+) -> impl Iterator<Item = Write> {
+    let (quarters, mut writes) = (month.quarters, Vec::new());
+    let row = |row: u64| row * quarters;
+    for _ in 0..1 + random.below(4) {
+        let quarter = random.below(quarters as usize) as u64;
+        let (schedule, figure) = random.of(&PAIRS);
+        let figure_row = (run - 1) * ROWS as u64 + group - 1;
+        let places = [(3, row(group - 1), schedule), (1, row(figure_row), figure)];
+        writes.extend(places.map(|(store, start, number)| Write {
+            store,
+            place: start + quarter,
+            number: number as u64,
+        }));
+    }
+    let [values, book, log, schedules] = plan.places.each();
+    for (store, places) in [(0, values), (1, book), (2, log), (3, schedules), (4, 1)] {
+        let place = random.below(places as usize + 2) as u64;
+        let number = random.word();
+        writes.push(Write {
+            store,
+            place,
+            number,
+        });
+    }
+    writes.into_iter()
 }
 
 /// Calls from the seed that the desk refuses as it stands.
@@ -160,6 +241,7 @@ fn plan(random: &mut Random, size: Size) -> Plan {
         values: rows as u64 * quarters + random.below(quarters as usize) as u64,
         book: 162 * quarters,
         log: 4 * log_rows as u64,
+        schedules: GROUPS * quarters,
     };
     let groups = (0..3 + random.below(4)).map(|_| 1 + random.below(64) as u64);
     let groups: Vec<u64> = groups.chain([1, 64]).collect();
@@ -189,6 +271,7 @@ fn plan(random: &mut Random, size: Size) -> Plan {
             values: lengths.values + SPARE.values,
             book: lengths.book + SPARE.book,
             log: lengths.log + SPARE.log,
+            schedules: lengths.schedules + SPARE.schedules,
         },
         size,
         days: days(random, size, first, clearing, correction),
@@ -246,9 +329,10 @@ fn unopened(random: &mut Random, plan: &Plan) -> Step {
         0 => any_call(random, plan.quarters),
         1 => {
             let length = 1 + random.below(5) as u64;
-            match random.below(3) {
+            match random.below(4) {
                 0 => lent.book = plan.places.book - length,
                 1 => lent.log += 1 + random.below(3) as u64,
+                2 => lent.schedules = other_schedules(random, plan),
                 _ => return Step::Call(changed(random, &plan.opening), lent),
             }
             plan.opening.clone()
@@ -258,10 +342,17 @@ fn unopened(random: &mut Random, plan: &Plan) -> Step {
     Step::Call(call, lent)
 }
 
+/// A length that the schedules have at no opening of the plan.
+fn other_schedules(random: &mut Random, plan: &Plan) -> u64 {
+    let (right, most) = (plan.lengths.schedules, plan.places.schedules);
+    random.of(&[0, 1, right - 1, right + 1, right - 64, right + 64, most])
+}
+
 /// A call with numbers of no meaning.
 pub(crate) fn any_call(random: &mut Random, quarters: u64) -> Call {
-    let number = 2 + random.below(8) as u64;
-    let fields = [0, 21, 5, 2, 3 + quarters as usize, 4, 3, 2, 2, 2][number as usize];
+    let number = 2 + random.below(10) as u64;
+    let energies = quarters as usize;
+    let fields = [0, 21, 5, 2, 3 + energies, 4, 3, 2, 2, 2, 2 + energies, 2][number as usize];
     let fields: Vec<u64> = (0..fields).map(|_| random.of(&ENDS)).collect();
     Call::of(number, &fields).expect("so many fields")
 }

@@ -3,10 +3,10 @@
 use crate::call::{Call, Lengths};
 use crate::generator::Random;
 use crate::months::{any_call, changed, Plan, Size};
-use crate::worked::{Month, Point, Version};
+use crate::worked::{Month, Point, Version, GROUPS};
 
 /// Largest energy.
-const LARGEST: i64 = 1_000_000_000_000;
+pub(crate) const LARGEST: i64 = 1_000_000_000_000;
 
 /// A choice of calls to an open desk.
 pub(crate) struct Pick<'a> {
@@ -39,15 +39,15 @@ impl<'a> Pick<'a> {
 
     fn right_call(&mut self) -> Call {
         let weights = match self.plan.size {
-            Size::Versions if self.month.points.len() >= 20 => [1, 1, 1, 240, 6, 2, 2, 2, 2],
-            Size::Versions => [1, 90, 1, 8, 1, 1, 1, 1, 1],
+            Size::Versions if self.month.points.len() >= 20 => [1, 1, 1, 240, 6, 2, 2, 2, 2, 2, 2],
+            Size::Versions => [1, 90, 1, 8, 1, 1, 1, 1, 1, 1, 1],
             Size::Points if self.month.points.len() < 256 && self.planned == 0 => {
-                [1, 300, 1, 2, 1, 1, 1, 1, 1]
+                [1, 300, 1, 2, 1, 1, 1, 1, 1, 1, 1]
             }
-            _ if self.due().is_some() => [1, 1, 1, 6, 24, 2, 1, 1, 6],
-            _ if self.month.points.len() < 3 => [1, 40, 2, 12, 2, 4, 2, 2, 4],
-            _ if self.is_corrected() => [2, 4, 3, 44, 44, 3, 7, 8, 7],
-            _ => [2, 9, 6, 40, 28, 9, 7, 8, 7],
+            _ if self.due().is_some() => [1, 1, 1, 6, 24, 2, 1, 1, 6, 1, 1],
+            _ if self.month.points.len() < 3 => [1, 40, 2, 12, 2, 4, 2, 2, 4, 4, 2],
+            _ if self.is_corrected() => [2, 4, 3, 44, 44, 3, 7, 8, 7, 3, 7],
+            _ => [2, 9, 6, 40, 28, 9, 7, 8, 7, 12, 9],
         };
         let mut choice = self.random.below(weights.iter().sum());
         let mut number = 0;
@@ -65,27 +65,43 @@ impl<'a> Pick<'a> {
             Pick::show,
             Pick::status,
             Pick::settle,
+            Pick::lodge,
+            Pick::report,
         ];
         choose[number](self)
     }
 
+    /// A show, a report, a lodging or a status, with the lengths lent to it.
+    pub(crate) fn asked(&mut self) -> (Call, Lengths) {
+        let asked = [
+            Pick::show,
+            Pick::report,
+            Pick::report,
+            Pick::lodge,
+            Pick::status,
+        ];
+        let call = self.random.of(&asked)(self);
+        let lent = self.lent(&call);
+        (call, lent)
+    }
+
     /// The opening's lengths for stores that the call takes, seldom another; any for the others.
     fn lent(&mut self, call: &Call) -> Lengths {
-        let right = self.month.lengths;
-        let mut lent = right;
-        let takes_all = matches!(call, Call::Submit { .. } | Call::Notice { .. });
-        let takes_book = takes_all || matches!(call, Call::Assign { .. } | Call::Show { .. });
+        let (takes, right) = (call.takes(), self.month.lengths.each());
+        let (mut lent, most) = (right, self.plan.places.each());
         let others = self.random.once_in(2);
-        if (!takes_all && others) || self.among(60) == 0 {
-            lent.values = self.length(right.values, self.plan.places.values);
+        for store in [0, 2, 1, 3] {
+            if (!takes[store] && others) || self.among(60) == 0 {
+                lent[store] = self.length(right[store], most[store]);
+            }
         }
-        if (!takes_all && others) || self.among(60) == 0 {
-            lent.log = self.length(right.log, self.plan.places.log);
+        let [values, book, log, schedules] = lent;
+        Lengths {
+            values,
+            book,
+            log,
+            schedules,
         }
-        if (!takes_book && others) || self.among(60) == 0 {
-            lent.book = self.length(right.book, self.plan.places.book);
-        }
-        lent
     }
 
     /// A length about the right one, not above the most that there is to lend.
@@ -247,6 +263,17 @@ impl<'a> Pick<'a> {
                 _ => highest + above,
             },
         };
+        let series = self.energies();
+        Call::Submit {
+            point,
+            version,
+            day: self.day(),
+            series,
+        }
+    }
+
+    /// Mostly Q energies that are not too large.
+    fn energies(&mut self) -> Vec<u64> {
         let quarters = self.month.quarters;
         let energies = match self.among(80) {
             0 => quarters + 1,
@@ -259,12 +286,7 @@ impl<'a> Pick<'a> {
             let foreign = [LARGEST + 1, -LARGEST - 1, i64::MAX, i64::MIN];
             series[at] = self.random.of(&foreign) as u64;
         }
-        Call::Submit {
-            point,
-            version,
-            day: self.day(),
-            series,
-        }
+        series
     }
 
     /// One of the versions, mostly of those that are looked for.
@@ -324,14 +346,69 @@ impl<'a> Pick<'a> {
         }
     }
 
+    /// Mostly one of the plan's groups, seldom one beside the range.
+    fn group(&mut self) -> u64 {
+        match (self.among(60), self.random.below(4)) {
+            (0, _) => self.random.of(&[0, 65]),
+            (_, 0) => 1 + self.random.below(64) as u64,
+            _ => self.random.of(&self.plan.groups),
+        }
+    }
+
+    /// Run 1 or 2, seldom one beside the range.
+    fn run(&mut self) -> u64 {
+        match self.among(60) {
+            0 => self.random.of(&[0, 3]),
+            _ => 1 + self.random.below(2) as u64,
+        }
+    }
+
     fn show(&mut self) -> Call {
         Call::Show {
-            run: 1 + self.random.below(2) as u64,
-            group: match self.random.below(4) {
-                0 => 1 + self.random.below(64) as u64,
-                _ => self.random.of(&self.plan.groups),
+            run: self.run(),
+            group: self.group(),
+        }
+    }
+
+    /// Mostly of a group that has lodged.
+    fn report(&mut self) -> Call {
+        let lodged: Vec<u64> = self.month.lodged.keys().copied().collect();
+        Call::Report {
+            run: self.run(),
+            group: match self.random.below(3) {
+                0 => self.group(),
+                _ if lodged.is_empty() => self.group(),
+                _ => self.random.of(&lodged),
             },
         }
+    }
+
+    /// A schedule, sometimes one that is near the group's figures; some days ahead, seldom on C, sometimes behind C and K.
+    fn lodge(&mut self) -> Call {
+        let group = self.group();
+        let Month {
+            clearing,
+            correction,
+            ..
+        } = *self.month;
+        let day = match self.among(40) {
+            0 => clearing,
+            1..=4 => {
+                let late = [clearing + 1, correction, correction + 1];
+                self.random.of(&late)
+            }
+            5..=9 => self.today() + 1 + self.random.below(3) as u64,
+            _ => self.day(),
+        };
+        let mut series = self.energies();
+        if (1..=GROUPS).contains(&group) && self.random.once_in(3) {
+            let start = (group - 1) as usize * self.month.quarters as usize;
+            let figures = self.month.figures(1);
+            for (energy, figure) in series.iter_mut().zip(&figures[start..]) {
+                *energy = (*figure as u64).wrapping_add(self.random.of(&[0, 0, 1, u64::MAX]));
+            }
+        }
+        Call::Lodge { group, day, series }
     }
 
     fn status(&mut self) -> Call {

@@ -21,6 +21,7 @@ const STORES: Lengths = Lengths {
     values: 4_096,
     book: BOOK_ROWS * MOST_QUARTERS,
     log: 4 * 512,
+    schedules: GROUPS as u64 * MOST_QUARTERS,
 };
 
 /// Groups of a month.

@@ -6,6 +6,7 @@ use crate::desk::Desk;
 use crate::generator::Random;
 use crate::message::{self, fields_of, Refusal};
 use crate::script::Stores;
+use crate::worked::GROUPS;
 
 /// Places of a summary: calls answered, offset, quarter hours, log rows used, versions held, calls refused, the first of
 /// them, the day, whether run 1 and run 2 are settled.
@@ -25,8 +26,16 @@ pub const VERSIONS: usize = 4 * 512;
 pub const BOOK_ROWS: u64 = 162;
 
 /// The stores of a replay, in their order.
-pub const NAMES: [&str; 8] = [
-    "values", "book", "log", "series", "answers", "summary", "points", "versions",
+pub const NAMES: [&str; 9] = [
+    "values",
+    "book",
+    "log",
+    "schedules",
+    "series",
+    "answers",
+    "summary",
+    "points",
+    "versions",
 ];
 
 /// What a replay is lent.
@@ -63,19 +72,32 @@ impl Lent {
     }
 
     /// Each store, in the order of `NAMES`.
-    pub fn each(&self) -> [&[u64]; 8] {
-        let Stores { values, book, log } = &self.stores;
+    pub fn each(&self) -> [&[u64]; 9] {
+        let Stores {
+            values,
+            book,
+            log,
+            schedules,
+        } = &self.stores;
         let [summary, points, versions] = &self.tables;
         let (series, answers) = (&self.series, &self.answers);
-        [values, book, log, series, answers, summary, points, versions]
+        [
+            values, book, log, schedules, series, answers, summary, points, versions,
+        ]
     }
 
     fn lengths(&self) -> Lengths {
-        let Stores { values, book, log } = &self.stores;
+        let Stores {
+            values,
+            book,
+            log,
+            schedules,
+        } = &self.stores;
         Lengths {
             values: values.len() as u64,
             book: book.len() as u64,
             log: log.len() as u64,
+            schedules: schedules.len() as u64,
         }
     }
 }
@@ -160,7 +182,7 @@ pub fn call_of(read: &message::Call, series: &[u64]) -> Call {
     Call::of(number, &fields).expect("as many fields")
 }
 
-/// What is lent to a call: values and log whole, of the book the first figures, as many as there are quarter hours
+/// What is lent to a call: values and log whole, of book and schedules the first numbers, as many as there are quarter hours
 /// for: an opening's own, for every other call those of the desk.
 fn lent_to(call: &Call, desk: &Desk, whole: Lengths) -> Lengths {
     let opening = match (call, desk.list().first()) {
@@ -173,6 +195,7 @@ fn lent_to(call: &Call, desk: &Desk, whole: Lengths) -> Lengths {
     };
     Lengths {
         book: whole.book.min(quarters.saturating_mul(BOOK_ROWS)),
+        schedules: whole.schedules.min(quarters.saturating_mul(GROUPS)),
         ..whole
     }
 }
@@ -195,7 +218,11 @@ pub fn replay(file: &[u8], lent: &mut Lent) -> Option<Run> {
         *place = *answer;
     }
     lent.stores = stores_after(&run.desk, lent.stores.clone());
-    let told = [summary_of(&run).to_vec(), points_of(&run), versions_of(&run)];
+    let told = [
+        summary_of(&run).to_vec(),
+        points_of(&run),
+        versions_of(&run),
+    ];
     for (table, told) in lent.tables.iter_mut().zip(told) {
         table[..told.len()].copy_from_slice(&told);
     }

@@ -6,7 +6,10 @@ use crate::linked;
 use std::fmt;
 
 /// The number of a record that overwrites a field of the desk's state.
-const DAMAGE: u64 = 10;
+const DAMAGE: u64 = 12;
+
+/// The number of a record by which somebody else writes in a store.
+const WRITE: u64 = 13;
 
 /// What an accepted status is in a script's output: this and the status. So it is the number of no cause.
 pub const STATUS_FROM: u64 = 100;
@@ -22,6 +25,17 @@ pub struct Damage {
     pub to: [u64; 4],
 }
 
+/// A number that somebody else writes in a store.
+#[derive(Clone, Copy, Debug, PartialEq, Eq)]
+pub struct Write {
+    /// The store: values 0, book 1, log 2, schedules 3.
+    pub store: u64,
+    /// Its place in the store; nothing is written where there is no such store or place.
+    pub place: u64,
+    /// The number.
+    pub number: u64,
+}
+
 /// A record of a script.
 #[derive(Clone, Debug)]
 pub enum Record {
@@ -29,6 +43,8 @@ pub enum Record {
     Call(Call, Lengths),
     /// A field of the state overwritten.
     Damage(Damage),
+    /// A store overwritten by somebody else.
+    Write(Write),
 }
 
 impl Record {
@@ -36,24 +52,33 @@ impl Record {
     pub fn numbers(&self) -> Vec<u64> {
         match self {
             Record::Call(call, lent) => {
-                let mut numbers = vec![call.number(), lent.values, lent.book, lent.log];
                 let mut fields = call.fields();
-                if let Call::Submit { series, .. } = call {
-                    fields.insert(3, series.len() as u64);
+                if let Some(energies) = call.energies() {
+                    let count = energies.len();
+                    fields.insert(fields.len() - count, count as u64);
                 }
-                numbers.extend(fields);
-                numbers
+                record(call.number(), *lent, &fields)
             }
             Record::Damage(Damage { which, place, to }) => {
-                [&[DAMAGE, 0, 0, 0, *which, *place], &to[..]].concat()
+                let fields = [&[*which, *place], &to[..]].concat();
+                record(DAMAGE, Lengths::default(), &fields)
             }
+            Record::Write(Write {
+                store,
+                place,
+                number,
+            }) => record(WRITE, Lengths::default(), &[*store, *place, *number]),
         }
     }
 }
 
+fn record(number: u64, lent: Lengths, fields: &[u64]) -> Vec<u64> {
+    [&[number], &lent.each()[..], fields].concat()
+}
+
 impl fmt::Display for Damage {
     fn fmt(&self, f: &mut fmt::Formatter) -> fmt::Result {
-        const NAMES: [&str; 17] = [
+        const NAMES: [&str; 18] = [
             "nothing",
             "quarters",
             "F",
@@ -71,6 +96,7 @@ impl fmt::Display for Damage {
             "point made free, at",
             "point's since, kind, area, partner, at",
             "version's number, point, row, status, at",
+            "opening length of schedules",
         ];
         let Damage { which, place, to } = self;
         let name = NAMES.get(*which as usize).unwrap_or(&NAMES[0]);
@@ -83,16 +109,26 @@ impl fmt::Display for Damage {
     }
 }
 
+impl fmt::Display for Write {
+    fn fmt(&self, f: &mut fmt::Formatter) -> fmt::Result {
+        let Write { store, place, .. } = self;
+        let names = ["values", "book", "log", "schedules"];
+        let name = names.get(*store as usize).unwrap_or(&"no store");
+        write!(f, "write {name} {place} = {}", self.number as i64)
+    }
+}
+
 impl fmt::Display for Record {
     fn fmt(&self, f: &mut fmt::Formatter) -> fmt::Result {
         match self {
             Record::Call(call, lent) => write!(f, "{call}; {lent}"),
             Record::Damage(damage) => write!(f, "{damage}"),
+            Record::Write(write) => write!(f, "{write}"),
         }
     }
 }
 
-/// The three stores, as long as the longest that is lent of each.
+/// The four stores, as long as the longest that is lent of each.
 #[derive(Clone, Debug, PartialEq, Eq)]
 pub struct Stores {
     /// The values.
@@ -101,6 +137,8 @@ pub struct Stores {
     pub book: Vec<u64>,
     /// The log.
     pub log: Vec<u64>,
+    /// The schedules.
+    pub schedules: Vec<u64>,
 }
 
 impl Stores {
@@ -112,12 +150,32 @@ impl Stores {
             values: filled(places.values),
             book: filled(places.book),
             log: filled(places.log),
+            schedules: filled(places.schedules),
+        }
+    }
+
+    /// Values, book, log and schedules, to be lent.
+    pub fn each_mut(&mut self) -> [&mut [u64]; 4] {
+        [
+            &mut self.values,
+            &mut self.book,
+            &mut self.log,
+            &mut self.schedules,
+        ]
+    }
+
+    /// Somebody else writes.
+    pub fn write(&mut self, write: Write) {
+        let mut stores = self.each_mut();
+        let store = stores.get_mut(write.store as usize);
+        if let Some(place) = store.and_then(|store| store.get_mut(write.place as usize)) {
+            *place = write.number;
         }
     }
 }
 
-/// What a run of a script gives: for each call its number, a status's with [`STATUS_FROM`] added, and for a show the
-/// length of its part and its words; and the stores.
+/// What a run of a script gives: for each call its number, a status's with [`STATUS_FROM`] added, for a show the length of its
+/// part and its words, for a report its surplus and its shortfall; and the stores.
 #[derive(Clone, Debug, PartialEq, Eq)]
 pub struct Outcome {
     /// The calls' answers in their order.
@@ -134,17 +192,16 @@ pub fn run(records: &[Record], mut stores: Stores) -> Outcome {
         .iter()
         .filter_map(|record| match record {
             Record::Call(call, _) => Some(call),
-            Record::Damage(_) => None,
+            Record::Damage(_) | Record::Write(_) => None,
         })
         .collect();
     let shows = calls
         .iter()
         .filter(|call| matches!(call, Call::Show { .. }));
-    let places = 2 * calls.len() + shows.count() * stores.book.len() / 162 + stores.book.len() + 8;
+    let places = 3 * calls.len() + shows.count() * stores.book.len() / 162 + stores.book.len() + 8;
     let untouched = 0x5eed_5eed_5eed_5eed;
     let mut out = vec![untouched; places];
-    let Stores { values, book, log } = &mut stores;
-    let written = linked::script(&script, values, book, log, &mut out) as usize;
+    let written = linked::script(&script, stores.each_mut(), &mut out) as usize;
     assert!(written <= out.len(), "{written} of {places} places written");
     let (mut rest, beyond) = out.split_at(written);
     assert!(beyond.iter().all(|&word| word == untouched));
@@ -153,6 +210,7 @@ pub fn run(records: &[Record], mut stores: Stores) -> Outcome {
         let length = match (call, rest) {
             (_, []) => break,
             (Call::Show { .. }, [_, part, ..]) => (*part as usize).saturating_add(2),
+            (Call::Report { .. }, _) => 3,
             _ => 1,
         };
         let (answer, after) = rest.split_at(length.min(rest.len()));

@@ -6,6 +6,9 @@ use std::collections::BTreeMap;
 /// Rows of one run: groups 1 to 64, delta T, areas 1 to 16.
 pub const ROWS: usize = 81;
 
+/// Balance groups; the schedules have a row for each.
+pub const GROUPS: u64 = 64;
+
 /// The row of delta T; an area's row is this one plus its number.
 const DELTA: usize = 64;
 
@@ -92,6 +95,8 @@ pub struct Month<'a> {
     pub settled: [bool; 2],
     /// The rows of the log: day, point, run, new version.
     pub log: Vec<[u64; 4]>,
+    /// The schedule that each group lodged last.
+    pub lodged: BTreeMap<u64, &'a [u64]>,
 }
 
 impl<'a> Month<'a> {
@@ -129,6 +134,7 @@ impl<'a> Month<'a> {
             rows: Vec::new(),
             settled: [false; 2],
             log: Vec::new(),
+            lodged: BTreeMap::new(),
         }
     }
 
@@ -183,7 +189,16 @@ impl<'a> Month<'a> {
             }
             Call::Assign { area, group, .. } => self.groups[area as usize] = group,
             Call::Settle { run, .. } => self.settle(run),
-            Call::Notice { .. } | Call::Open { .. } | Call::Show { .. } | Call::Status { .. } => {}
+            Call::Lodge {
+                group, ref series, ..
+            } => {
+                self.lodged.insert(group, series);
+            }
+            Call::Notice { .. }
+            | Call::Open { .. }
+            | Call::Show { .. }
+            | Call::Status { .. }
+            | Call::Report { .. } => {}
         }
         let after = self.own_versions(call);
         for run in 1..=2 {
@@ -266,6 +281,29 @@ impl<'a> Month<'a> {
             }
         }
         figures
+    }
+
+    /// A group's schedule, 0 where it has lodged none.
+    pub fn schedule(&self, group: u64) -> Vec<i128> {
+        match self.lodged.get(&group) {
+            Some(series) => series.iter().map(|&energy| signed(energy)).collect(),
+            None => vec![0; self.quarters as usize],
+        }
+    }
+
+    /// A group's surplus and shortfall for each quarter hour, by the figures of a run.
+    pub fn deviations(&self, figures: &[i128], group: u64) -> Vec<[i128; 2]> {
+        let row = &figures[(group - 1) as usize * self.quarters as usize..];
+        let schedule = self.schedule(group);
+        let quarters = schedule.iter().zip(row);
+        let split = |(planned, figure): (&i128, &i128)| [planned - figure, figure - planned];
+        quarters.map(|pair| split(pair).map(|d| d.max(0))).collect()
+    }
+
+    /// The sums of a group's surplus and shortfall over the month, by the figures of a run.
+    pub fn report(&self, figures: &[i128], group: u64) -> [i128; 2] {
+        let deviations = self.deviations(figures, group);
+        [0, 1].map(|side: usize| deviations.iter().map(|quarter| quarter[side]).sum())
     }
 
     /// The outside exchange of a run, for each quarter hour.

@@ -14,10 +14,11 @@ const LENT: Lengths = Lengths {
     values: 9,
     book: 324,
     log: 20,
+    schedules: 128,
 };
 
 /// The calls of the month.
-const CALLS: [&[u64]; 16] = [
+const CALLS: [&[u64]; 18] = [
     &[
         1, 2, 10, 30, 150, 4, 1, 2, 3, 3, 3, 3, 3, 3, 3, 3, 3, 3, 3, 3, 3, 3,
     ],
@@ -29,11 +30,13 @@ const CALLS: [&[u64]; 16] = [
     &[4, 256, 9, 11, 31, 41],
     &[4, 1, 6, 12, 101, 201],
     &[6, 1, 5, 12],
+    &[10, 5, 12, 60, 90],
     &[5, 256, 9, 1, 30],
     &[7, 1, 5],
     &[5, 1, 6, 1, 31],
     &[9, 1, 31],
     &[7, 2, 5],
+    &[11, 2, 5],
     &[9, 2, 151],
     &[8, 1, 6],
 ];
@@ -53,7 +56,7 @@ fn month() -> Trial {
 /// One call of each sort, such as the desk accepts at one time or another; and a second opening.
 fn every_call(month: &Month) -> Vec<(Call, Lengths)> {
     let day = month.day;
-    let calls: [&[u64]; 9] = [
+    let calls: [&[u64]; 11] = [
         CALLS[0],
         &[2, 9, 3, 1, 0, day],
         &[3, 3, day],
@@ -63,6 +66,8 @@ fn every_call(month: &Month) -> Vec<(Call, Lengths)> {
         &[7, 1, 5],
         &[8, 1, 5],
         &[9, 1, 400],
+        &[10, 7, day, 3, 4],
+        &[11, 1, 5],
     ];
     calls.iter().map(|c| (call(c), LENT)).collect()
 }
@@ -77,7 +82,7 @@ fn desk(calls: usize) -> Desk {
 }
 
 /// A field damaged after each call of the month in turn. Outside its limits: every call is answered 1, an opening 6.
-/// Inside: a status and a show are not answered 1. The damage is undone, and the month goes on as without it.
+/// Inside: a status, a show and a report are not answered 1. The damage is undone, and the month goes on as without it.
 fn limits(name: &str) {
     let field = Field::named(name);
     let position = FIELDS.iter().position(|f| f.name == name);
@@ -110,9 +115,9 @@ fn limits(name: &str) {
     assert!(inside.all("inside the limits") > 0);
 }
 
-/// The answers to a status and a show of a desk that is damaged after so many calls. The answers of the others and the
-/// stores are as without the damage.
-fn answers_inside(opened: &Month, calls: usize, damages: &[Damage]) -> [u64; 2] {
+/// The answers to a status, a show and a report of a desk that is damaged after so many calls. The answers of the others and
+/// the stores are as without the damage.
+fn answers_inside(opened: &Month, calls: usize, damages: &[Damage]) -> [u64; 3] {
     let trial = month();
     let plain = expected(&trial, &mut Tally::new());
     let asked = [
@@ -121,22 +126,20 @@ fn answers_inside(opened: &Month, calls: usize, damages: &[Damage]) -> [u64; 2] 
             version: 77,
         },
         Call::Show { run: 1, group: 5 },
+        Call::Report { run: 1, group: 5 },
     ];
     let damage = |damage: &Damage| Record::Damage(*damage);
     let block = damages.iter().map(damage);
-    let block = block.chain(asked.map(|call| Record::Call(call, LENT)));
+    let block = block.chain(asked.clone().map(|call| Record::Call(call, LENT)));
     let undone = damages.iter().map(|d| Record::Damage(undone(opened, d)));
     let block: Vec<Record> = block.chain(undone).collect();
     let mut records = plain.records.clone();
     records.splice(calls..calls, block);
     let mut linked = script::run(&records, trial.stores());
-    let status = linked.answers.remove(calls);
-    let show = linked.answers.remove(calls);
+    let given = asked.map(|_| linked.answers.remove(calls)[0]);
     assert_eq!(linked, plain.outcome, "after {calls} calls and {damages:?}");
-    for answer in [&status, &show] {
-        assert_ne!(answer[0], 1, "after {calls} calls and {damages:?}");
-    }
-    [status[0], show[0]]
+    assert!(!given.contains(&1), "after {calls} calls and {damages:?}");
+    given
 }
 
 /// A test for each field.
@@ -165,6 +168,7 @@ fields! {
     length_of_values "length of values"
     length_of_book "length of book"
     length_of_log "length of log"
+    length_of_schedules "length of schedules"
     day "day"
     delta_group "delta group"
     version_count "version count"
@@ -203,10 +207,11 @@ fn no_quarters() {
             .collect();
         let damaged = [
             vec![set(1, 0, [0; 4])],
-            vec![set(1, 0, [0; 4]), set(6, 0, [0; 4])],
+            vec![set(1, 0, [0; 4]), set(6, 0, [0; 4]), set(17, 0, [0; 4])],
         ];
         for damage in damaged {
-            let back = [set(1, 0, [2, 0, 0, 0]), set(6, 0, [324, 0, 0, 0])];
+            let back =
+                [(1, 2), (6, 324), (17, 128)].map(|(which, to)| set(which, 0, [to, 0, 0, 0]));
             let block = damage.into_iter().chain(others.iter().cloned());
             let block = block
                 .chain([Record::Call(refused.clone(), LENT)])
@@ -214,23 +219,21 @@ fn no_quarters() {
             let mut records = plain.records.clone();
             records.splice(calls..calls, block);
             let mut linked = script::run(&records, trial.stores());
-            let answers: Vec<Vec<u64>> = linked.answers.drain(calls..calls + 9).collect();
+            let answers: Vec<Vec<u64>> = linked.answers.drain(calls..calls + 11).collect();
             for (answer, call) in answers.iter().zip(&others) {
                 assert_eq!(answer[0], 1, "{call} after {calls} calls");
             }
-            assert_eq!(answers[8], [4], "a refused opening after {calls} calls");
+            assert_eq!(answers[10], [4], "a refused opening after {calls} calls");
             assert_eq!(linked, plain.outcome, "after {calls} calls");
         }
 
-        let garbage = (2..=16).map(|which| set(which, 3, [u64::MAX; 4]));
+        let garbage = (2..=17).map(|which| set(which, 3, [u64::MAX; 4]));
         let mut records = plain.records[..calls].to_vec();
         records.extend(garbage.chain([set(1, 0, [0; 4])]));
         records.extend(plain.records.iter().cloned());
         let anew = script::run(&records, trial.stores());
         assert_eq!(anew.answers[calls..], plain.outcome.answers);
-        assert_eq!(anew.stores.book, plain.outcome.stores.book);
-        assert_eq!(anew.stores.log, plain.outcome.stores.log);
-        assert_eq!(anew.stores.values, plain.outcome.stores.values);
+        assert_eq!(anew.stores, plain.outcome.stores);
     }
 }
 

@@ -1,5 +1,5 @@
-//! The desk: both desks on months of calls from a seed, on every number at the ends of its range, and on calls that
-//! are refused.
+//! The desk: both desks on months of calls from a seed, on every number at the ends of its range, on calls that are refused,
+//! and where somebody else writes in the stores.
 
 use emorizugu_tests::call::{Call, Lengths};
 use emorizugu_tests::compare::{compare, expected, Step, Trial};
@@ -9,10 +9,11 @@ use emorizugu_tests::generator::Random;
 use emorizugu_tests::linked;
 use emorizugu_tests::months::{self, Size, BEYOND, ENDS};
 use emorizugu_tests::notices::{FULL_LOG, NOTICES};
-use emorizugu_tests::script::{self, Record, Stores};
+use emorizugu_tests::schedules;
+use emorizugu_tests::script::{self, Record, Stores, Write};
 use emorizugu_tests::tally::Tally;
 
-/// Months of some 60 calls.
+/// Months of some 70 calls.
 const MONTHS: usize = 20_000;
 
 /// Months that reach 512 versions, and months that reach 256 points.
@@ -21,8 +22,11 @@ const LONG: usize = 100;
 /// How often each answer is to have been compared at least.
 const LEAST: u64 = 500;
 
+/// How often each case of lodgings and reports is to have been compared at least.
+const LEAST_SCHEDULES: u64 = 100;
+
 /// The answers of each call to an open desk, but for an accepted status.
-const ANSWERS: [(&str, &[u64]); 9] = [
+const ANSWERS: [(&str, &[u64]); 11] = [
     ("open", &[0, 4, 6]),
     ("activate", &[0, 3, 5, 11, 21, 22]),
     ("deactivate", &[0, 3, 5, 11, 12, 23]),
@@ -32,15 +36,23 @@ const ANSWERS: [(&str, &[u64]); 9] = [
     ("show", &[0, 2, 3]),
     ("status", &[3, 12, 24]),
     ("settle", &[0, 3, 5, 27, 28, 29]),
+    ("lodge", &[0, 2, 3, 5, 26]),
+    ("report", &[0, 2, 3]),
 ];
 
 /// Cases that a month can have, with the numbers that they are counted by.
-const CASES: [(&str, &[u64]); 11] = [
+const CASES: [(&str, &[u64]); 14] = [
     ("desk not open", &[1]),
+    ("call to a desk not open", &[2, 3, 4, 5, 6, 7, 8, 9, 10, 11]),
+    (
+        "call to a damaged desk",
+        &[1, 2, 3, 4, 5, 6, 7, 8, 9, 10, 11],
+    ),
     ("status given", &[1, 2, 3, 4, 5]),
     ("values of another length", &[2]),
     ("book of another length", &[2]),
     ("log of another length", &[2]),
+    ("schedules of another length", &[2]),
     ("next row exceeds values", &[16]),
     ("kind of the series submitted", &[1, 2, 3, 4, 5]),
     ("both sides on one row", &[1, 2, 3, 4, 5]),
@@ -73,6 +85,9 @@ fn months_agree() {
     let cases = CASES.into_iter().chain(NOTICES).chain([FULL_LOG]);
     for (what, numbers) in ANSWERS.into_iter().chain(cases) {
         tally.demand(what, numbers, LEAST);
+    }
+    for (what, numbers) in schedules::CASES.into_iter().chain(schedules::WRAPS) {
+        tally.demand(what, numbers, LEAST_SCHEDULES);
     }
     for field in FIELDS.iter().filter(|field| !WIDE.contains(&field.name)) {
         assert!(tally.all(field.name) >= LEAST, "damage to {}", field.name);
@@ -161,7 +176,7 @@ fn refused_calls_change_nothing() {
 fn calls(steps: &[Step]) -> Vec<Record> {
     let call = |step: &Step| match step {
         Step::Call(call, lent) => Some(Record::Call(call.clone(), *lent)),
-        Step::Damaged { .. } => None,
+        Step::Damaged { .. } | Step::Write(_) => None,
     };
     steps.iter().filter_map(call).collect()
 }
@@ -177,8 +192,9 @@ fn accepted() -> Trial {
         values: 9,
         book: 324,
         log: 20,
+        schedules: 128,
     };
-    let fields: [&[u64]; 20] = [
+    let fields: [&[u64]; 25] = [
         &[
             1, 2, 10, 30, 150, 4, 1, 2, 3, 3, 3, 3, 3, 3, 3, 3, 3, 3, 3, 3, 3, 3,
         ],
@@ -192,10 +208,15 @@ fn accepted() -> Trial {
         &[4, 256, 99_999_999_999_990, 10, 1_000_000_000_000, 7],
         &[6, 0, 64, 10],
         &[6, 16, 1, 10],
+        &[10, 64, 10, 7, 1_000_000_000_000],
+        &[10, 1, 10, 150, u64::MAX],
         &[7, 1, 64],
         &[7, 2, 1],
         &[8, 1, 5],
+        &[11, 1, 64],
+        &[11, 2, 1],
         &[4, 2, 1, 11, 10, 20],
+        &[10, 64, 30, 8, 9],
         &[5, 2, 1, 1, 30],
         &[4, 2, 3, 30, 11, 21],
         &[5, 2, 3, 1, 31],
@@ -211,10 +232,31 @@ fn accepted() -> Trial {
             values: 12,
             book: 330,
             log: 28,
+            schedules: 195,
         },
         seed: 9,
         steps: fields.iter().map(step).collect(),
     }
+}
+
+/// Lengths of the stores about the right ones: every three of the first three, and each of the last.
+fn lengths(right: Lengths) -> Vec<Lengths> {
+    let schedules = [0, 63, 64, 65, 127, 128, 129, 192];
+    let with = |schedules| Lengths { schedules, ..right };
+    let mut lengths = schedules.map(with).to_vec();
+    for values in [0, 8, 9, 10] {
+        for book in [0, 162, 323, 324, 325] {
+            for log in [0, 16, 19, 20, 21, 24] {
+                lengths.push(Lengths {
+                    values,
+                    book,
+                    log,
+                    ..right
+                });
+            }
+        }
+    }
+    lengths
 }
 
 /// Each call of a month with each of its numbers, and each length lent to it, at the ends of ranges, next to what it
@@ -247,14 +289,9 @@ fn numbers_at_the_ends_of_their_ranges_agree() {
                 compare(&other, &mut tally);
             }
         }
-        for values in [0, 8, 9, 10] {
-            for book in [0, 162, 323, 324, 325] {
-                for log in [0, 16, 19, 20, 21, 24] {
-                    let lent = Lengths { values, book, log };
-                    other.steps[at] = Step::Call(call.clone(), lent);
-                    compare(&other, &mut tally);
-                }
-            }
+        for lent in lengths(*lent) {
+            other.steps[at] = Step::Call(call.clone(), lent);
+            compare(&other, &mut tally);
         }
     }
     tally.print();
@@ -270,7 +307,7 @@ fn scripts_stop_before_what_they_cannot_run() {
     let month = accepted();
     let records = expected(&month, &mut Tally::new()).records;
     let script: Vec<u64> = records.iter().flat_map(Record::numbers).collect();
-    let whole = run(&script, &month, 2_000);
+    let whole = run(&script, &month, 3_000);
     let mut ends = vec![0];
     for record in &records {
         ends.push(ends[ends.len() - 1] + record.numbers().len());
@@ -278,25 +315,26 @@ fn scripts_stop_before_what_they_cannot_run() {
     for length in 0..=script.len() {
         let full = ends.iter().rev().find(|&&end| end <= length);
         let full = *full.expect("a beginning");
-        let stopped = run(&script[..length], &month, 2_000);
-        assert_eq!(stopped, run(&script[..full], &month, 2_000), "{length}");
+        let stopped = run(&script[..length], &month, 3_000);
+        assert_eq!(stopped, run(&script[..full], &month, 3_000), "{length}");
         assert!(whole.0.starts_with(&stopped.0));
     }
     for (at, &start) in ends[..records.len()].iter().enumerate() {
         let foreign = [
             (0, 0),
-            (0, 11),
+            (0, 14),
             (0, u64::MAX),
             (1, 13),
             (2, 331),
             (3, 29),
-            (3, u64::MAX),
+            (4, 196),
+            (4, u64::MAX),
         ];
         for (place, number) in foreign {
             let mut other = script.clone();
             other[start + place] = number;
-            let stopped = run(&other, &month, 2_000);
-            assert_eq!(stopped, run(&script[..start], &month, 2_000), "{at}");
+            let stopped = run(&other, &month, 3_000);
+            assert_eq!(stopped, run(&script[..start], &month, 3_000), "{at}");
         }
     }
     for places in [0, 1, 325, 326, 327, 330, 340] {
@@ -309,8 +347,54 @@ fn scripts_stop_before_what_they_cannot_run() {
 /// The numbers that a script writes to an output of so many places, and the stores.
 fn run(script: &[u64], month: &Trial, places: usize) -> (Vec<u64>, Stores) {
     let (mut out, mut stores) = (vec![0; places], month.stores());
-    let Stores { values, book, log } = &mut stores;
-    let written = linked::script(script, values, book, log, &mut out);
+    let written = linked::script(script, stores.each_mut(), &mut out);
     out.truncate(written as usize);
     (out, stores)
+}
+
+/// A number that somebody else writes in values, book or schedules.
+fn write(random: &mut Random, places: Lengths) -> Write {
+    let (store, places) = random.of(&[(0, places.values), (1, places.book), (3, places.schedules)]);
+    let place = random.below(places as usize) as u64;
+    let number = random.word();
+    Write {
+        store,
+        place,
+        number,
+    }
+}
+
+/// "Answer numbers, statuses and log rows never depend on what the stores hold": months in which somebody else writes between
+/// the calls.
+#[test]
+fn answers_do_not_depend_on_what_the_stores_hold() {
+    let (mut random, mut tally) = (Random::new(21), Tally::new());
+    for _ in 0..3_000 {
+        let mut month = months::month(&mut random, Size::Short);
+        month.steps.retain(|step| !matches!(step, Step::Write(_)));
+        let plain = expected(&month, &mut Tally::new());
+        let mut records = Vec::new();
+        for record in &plain.records {
+            if random.once_in(3) {
+                let write = write(&mut random, month.places);
+                tally.add("written in store", write.store);
+                records.push(Record::Write(write));
+            }
+            records.push(record.clone());
+        }
+        let linked = script::run(&records, month.stores());
+        assert_eq!(linked.answers.len(), plain.outcome.answers.len());
+        for (answer, other) in plain.outcome.answers.iter().zip(&linked.answers) {
+            assert_eq!(answer[0], other[0], "{}", lines(&records));
+            tally.add(
+                "a row or sums of what was written",
+                (answer != other).into(),
+            );
+        }
+        let log = &plain.outcome.stores.log;
+        assert_eq!(log, &linked.stores.log, "{}", lines(&records));
+    }
+    tally.print();
+    tally.demand("written in store", &[0, 1, 3], LEAST);
+    tally.demand("a row or sums of what was written", &[0, 1], LEAST);
 }

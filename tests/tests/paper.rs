@@ -725,6 +725,7 @@ fn lent(rows: usize) -> Lent {
         values: 16,
         book: 324,
         log: 4 * rows as u64,
+        schedules: 128,
     };
     Lent::filled(lengths, 2, 16, [SUMMARY, POINTS, VERSIONS], 19)
 }
@@ -734,18 +735,10 @@ fn plain_replay(file: &[u8], lent: &mut Lent) {
 }
 
 fn linked_replay(file: &[u8], lent: &mut Lent) {
-    let Stores { values, book, log } = &mut lent.stores;
+    let stores = lent.stores.each_mut();
     let [summary, points, versions] = &mut lent.tables;
     let (series, answers) = (&mut lent.series, &mut lent.answers);
-    linked::replay(
-        file,
-        values,
-        book,
-        log,
-        series,
-        answers,
-        [summary, points, versions],
-    );
+    linked::replay(file, stores, series, answers, [summary, points, versions]);
 }
 
 /// The versions that a table of points tells, as the desk program prints them.
@@ -822,6 +815,7 @@ fn scripted(file: &[u8], rows: usize) -> Outcome {
         values: 16,
         book: 162,
         log: 4 * rows as u64,
+        schedules: 64,
     };
     let (mut start, mut series, mut records) = (0, [0; 1], Vec::new());
     while let Some(read) = message::read(file, start, &mut series).expect("a call") {

@@ -16,9 +16,10 @@ use emorizugu_tests::replay::{
     self, Ending, Lent, Run, BOOK_ROWS, NAMES, POINTS, SUMMARY, VERSIONS,
 };
 use emorizugu_tests::tally::Tally;
+use emorizugu_tests::worked::GROUPS;
 
 /// Files that are compared.
-const FILES: u64 = 8_000;
+const FILES: u64 = 12_000;
 
 /// How often each ending and each case is to have been compared at least.
 const LEAST: u64 = 100;
@@ -109,7 +110,7 @@ impl Case {
         );
         for (at, line) in files::lines(&file, *series).iter().enumerate() {
             let answer = plain.answers.get(at).map(|&answer| answer as i64);
-            let other = stores[4][FENCE.len()..].get(at);
+            let other = stores[5][FENCE.len()..].get(at);
             let other = other.filter(|_| at < *answers).map(|&other| other as i64);
             text += &format!("{:4} {line}: {answer:?}, linked {other:?}\n", at + 1);
         }
@@ -167,9 +168,9 @@ impl Case {
     fn count_opening(&self, run: &Run, tally: &mut Tally) {
         let number = run.ending.number();
         let right = |quarters: u64| Lengths {
-            values: 0,
             book: quarters.saturating_mul(BOOK_ROWS),
-            log: 0,
+            schedules: quarters.saturating_mul(GROUPS),
+            ..Lengths::default()
         };
         let mut too_large = false;
         for (call, answer) in run.answered.iter().filter(|(_, answer)| *answer == 4) {
@@ -179,12 +180,18 @@ impl Case {
             let right = right(*quarters);
             if Desk::new().call(call, right).number() != 0 {
                 tally.add("opening with a field out of range", *answer);
-            } else if right.book > self.lengths.book {
-                too_large = true;
-                tally.add("opening too large for the book", *answer);
-            } else {
-                tally.add("log not a multiple of 4", *answer);
+                continue;
             }
+            let book = right.book > self.lengths.book;
+            let schedules = right.schedules > self.lengths.schedules;
+            too_large |= book || schedules;
+            let what = match (book, schedules) {
+                (true, false) => "opening too large for the book",
+                (false, true) => "opening too large for the schedules",
+                (true, true) => "opening too large for both",
+                (false, false) => "log not a multiple of 4",
+            };
+            tally.add(what, *answer);
         }
         let Some(month) = run.desk.month() else {
             tally.add("never opened", number);
@@ -196,6 +203,8 @@ impl Case {
         }
         let beyond = self.lengths.book - month.lengths.book;
         tally.add("figures beyond, up to 2", beyond.min(2));
+        let beyond = self.lengths.schedules - month.lengths.schedules;
+        tally.add("schedules beyond, up to 2", beyond.min(2));
         tally.add("log rows used, up to 9", month.log.len().min(9) as u64);
         tally.add("versions held, up to 9", month.rows.len().min(9) as u64);
         let odd = month.lengths.values % month.quarters;
@@ -227,16 +236,17 @@ impl Case {
 }
 
 /// The linked replay's number, and the stores that it leaves, each between what it is not lent.
-fn linked_replay(file: &[u8], lent: &Lent) -> (u64, [Vec<u64>; 8]) {
+fn linked_replay(file: &[u8], lent: &Lent) -> (u64, [Vec<u64>; 9]) {
     let mut stores = lent.each().map(|store| [&FENCE, store, &FENCE].concat());
     let inside = |store: &mut Vec<u64>| FENCE.len()..store.len() - FENCE.len();
-    let [values, book, log, series, answers, summary, points, versions] =
+    let [values, book, log, schedules, series, answers, summary, points, versions] =
         stores.each_mut().map(|store| {
             let inside = inside(store);
             &mut store[inside]
         });
+    let lent = [values, book, log, schedules];
     let tables = [summary, points, versions];
-    let number = linked::replay(file, values, book, log, series, answers, tables);
+    let number = linked::replay(file, lent, series, answers, tables);
     (number, stores)
 }
 
@@ -276,23 +286,36 @@ fn lengths(random: &mut Random, quarters: usize, right: Lengths) -> Lengths {
             1 => some % 9,
             _ => right.log,
         },
+        schedules: match random.below(40) {
+            0 => 0,
+            1 => 63,
+            2 => 64,
+            3 => right.schedules - 1,
+            4 => right.schedules - 64,
+            5 => right.schedules + 1,
+            6 | 7 => right.schedules + 1 + some,
+            8 => right.schedules + GROUPS,
+            _ => right.schedules,
+        },
     }
 }
 
 /// A case from the seed, and how its file was made.
 fn case(random: &mut Random, size: Size) -> (Case, Shape) {
     let month = months::month(random, size);
-    let Lengths { values, book, log } = month.places;
+    let places = month.places;
     let right = Lengths {
-        values: values - SPARE.values,
-        book: book - SPARE.book,
-        log: log - SPARE.log,
+        values: places.values - SPARE.values,
+        book: places.book - SPARE.book,
+        log: places.log - SPARE.log,
+        schedules: places.schedules - SPARE.schedules,
     };
     let quarters = (right.book / BOOK_ROWS) as usize;
     let lengths = lengths(random, quarters, right);
     let mut calls = files::calls(&month);
     if random.once_in(3) {
-        files::open_before(random, &mut calls, lengths.book / BOOK_ROWS);
+        let held = random.of(&[lengths.book / BOOK_ROWS, lengths.schedules / GROUPS]);
+        files::open_before(random, &mut calls, held);
     }
     let shape = files::shape(random);
     let parts = files::parts(random, &calls, shape);
@@ -364,6 +387,8 @@ fn files_of_months_agree() {
     for what in [
         "opening with a field out of range",
         "opening too large for the book",
+        "opening too large for the schedules",
+        "opening too large for both",
         "log not a multiple of 4",
     ] {
         tally.demand(what, &[4], LEAST);
@@ -374,6 +399,7 @@ fn files_of_months_agree() {
     }
     assert!(tally.all("opened after one too large") >= LEAST);
     tally.demand("figures beyond, up to 2", &[0, 1, 2], LEAST);
+    tally.demand("schedules beyond, up to 2", &[0, 1, 2], LEAST);
     tally.demand(
         "log rows used, up to 9",
         &[0, 1, 2, 3, 4, 5, 6, 7, 8, 9],
@@ -445,6 +471,7 @@ fn full_tables_agree() {
                 values: 8 * MOST_VERSIONS as u64,
                 book: 8 * BOOK_ROWS,
                 log: 4 * 384,
+                schedules: 8 * GROUPS,
             },
             series: 8,
             answers: calls.len(),
@@ -491,6 +518,7 @@ fn accepted_case() -> Case {
             values: 5,
             book: 2 * BOOK_ROWS + 1,
             log: 8,
+            schedules: 2 * GROUPS + 1,
         },
         series: 2,
         answers: 8,
@@ -533,19 +561,21 @@ fn every_length_agrees() {
         };
         case.compare(&mut tally);
     };
+    let right = case.lengths;
     for book in 0..=3 * BOOK_ROWS + 1 {
-        compare(
-            Lengths {
-                book,
-                ..case.lengths
-            },
-            SUMMARY,
-        );
+        compare(Lengths { book, ..right }, SUMMARY);
+    }
+    for schedules in 0..=3 * GROUPS + 1 {
+        compare(Lengths { schedules, ..right }, SUMMARY);
     }
     for values in 0..=9 {
         for log in 0..=13 {
-            let book = case.lengths.book;
-            compare(Lengths { values, book, log }, SUMMARY);
+            let lengths = Lengths {
+                values,
+                log,
+                ..right
+            };
+            compare(lengths, SUMMARY);
         }
     }
     for summary in 0..=12 {
@@ -553,6 +583,8 @@ fn every_length_agrees() {
     }
     tally.print();
     tally.demand("opening too large for the book", &[4], 324);
+    tally.demand("opening too large for the schedules", &[4], 128);
+    tally.demand("schedules beyond, up to 2", &[0, 1, 2], 1);
     tally.demand("log not a multiple of 4", &[4], 100);
     tally.demand("submit", &[0, 1, 16, 17], 8);
     tally.demand("replay", &[0, SHORT], SUMMARY as u64);
@@ -580,6 +612,7 @@ fn the_example_leaves_what_document_01_says() {
             values: 2,
             book: 164,
             log: 8,
+            schedules: 66,
         },
         series: 2,
         answers: 5,
@@ -594,6 +627,7 @@ fn the_example_leaves_what_document_01_says() {
         after.stores.book[figure] = 1000;
     }
     after.stores.log[..4].copy_from_slice(&[2, 1, 1, 7]);
+    after.stores.schedules[..64].fill(0);
     after.series[0] = 1000;
     after.answers[..4].copy_from_slice(&[0, 0, 0, 14]);
     let [summary, points, versions] = &mut after.tables;

@@ -1,5 +1,6 @@
 //! The plain desk alone against document 01: its sample month, its example, its traps and its decided points; and against
-//! document 02: the status that comes with a selected version, and notices on the highest version only.
+//! document 02: the status that comes with a selected version, and notices on the highest version only (tests/schedules.rs has
+//! its schedules).
 
 use emorizugu_tests::call::{Call, Lengths};
 use emorizugu_tests::desk::{Answer, Desk};
@@ -10,6 +11,7 @@ const LENT: Lengths = Lengths {
     values: 200,
     book: 324,
     log: 400,
+    schedules: 128,
 };
 
 /// Largest energy.
@@ -202,6 +204,7 @@ fn program(file: &[u8]) -> String {
             values: 4_096,
             book: 162 * quarters,
             log: 2_048,
+            schedules: 64 * quarters,
         };
         calls += 1;
         let answer = desk.call(&call, lent).number();
@@ -389,8 +392,8 @@ fn checks_go_down_the_table() {
 fn stores_run_out() {
     let short = Lengths {
         values: 7,
-        book: 324,
         log: 4,
+        ..LENT
     };
     let mut desk = Desk::new();
     let calls: [(&[u64], u64, &str); 13] = [

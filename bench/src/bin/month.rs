@@ -108,7 +108,7 @@ fn compare_any() {
     }
     let given = (0..).zip(answers).filter(|&(_, count)| count > 0);
     let given: Vec<String> = given.map(|(n, count)| format!("{n}: {count}")).collect();
-    println!("The five desks are the same in answers, summary, log, series, values and book on {COMPARED} files of any calls,");
+    println!("The five desks are the same in answers, summary, log, series, values, book and schedules on {COMPARED} files of any calls,");
     println!("with these answers: {};", given.join(", "));
     println!("and on each month below, where every call is accepted.");
     println!();

@@ -1,4 +1,5 @@
 pub mod Filling
 pub mod Logs
 pub mod SidesIn
+pub mod Stored
 pub mod Within

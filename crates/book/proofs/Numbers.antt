@@ -15,6 +15,16 @@ use Rattle.book.specs.Bytes.{wordOf, figureOk, figureRefusal, figureIn}
 use Rattle.book.specs.Laws.{InRange, eightBytes, Figures}
 use Rattle.book.proofs.Figures.{bytes-none, bytes-more, found}
 
+-- a test fails where what it says does not hold
+pub out : {P : Type 0} (t : Bool) → Means t P → (P → ⊥) → t ≡ false
+out true m free = absurd (free (m .holds refl))
+out false m free = refl
+
+-- and passes where it does
+pub yes-in : {P : Type 0} (t : Bool) → Means t P → P → t ≡ true
+yes-in true m p = refl
+yes-in false m p = absurd (m .fails refl p)
+
 means-range : (q r g n : ℕ) → Means (figureOk q r g n) (InRange q r g n)
 means-range q r g n =
     means-and (quartersOk q) _ (means-quarters q)
@@ -23,7 +33,8 @@ means-range q r g n =
     (λ _. means-and (leb 1 n) (leb n q) (means-le 1 n)
     (λ _. means-le n q))))
 
-eight-bytes : (s : List ℕ) (at : ℕ) → at + 8 ≤ length s → wordOf (take 8 (drop at s)) ≡ eightBytes s at
+-- the word of eight bytes, byte by byte
+pub eight-bytes : (s : List ℕ) (at : ℕ) → at + 8 ≤ length s → wordOf (take 8 (drop at s)) ≡ eightBytes s at
 eight-bytes s at fits =
     let l = take 8 (drop at s) in
     let more : (k : ℕ) → 0 < k → k ≤ 8 → wordOf (drop k l) * 256 + getD s (at + (k - 1)) 0 ≡ wordOf (drop (k - 1) l) =
@@ -45,11 +56,3 @@ figures s q r g n =
           (eight-bytes s (8 * (((r - 1) * 81 + (g - 1)) * q + (n - 1))) (omega (arith, inside, e)));
       none = λ ne. rw (ne-eqb (figureRefusal (length s) q r g n) 0 ne);
     }
-  where
-    out : {P : Type 0} (t : Bool) → Means t P → (P → ⊥) → t ≡ false
-    out true m free = absurd (free (m .holds refl))
-    out false m free = refl
-
-    yes-in : {P : Type 0} (t : Bool) → Means t P → P → t ≡ true
-    yes-in true m p = refl
-    yes-in false m p = absurd (m .fails refl p)

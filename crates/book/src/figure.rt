@@ -6,10 +6,10 @@ ghost use Prim.Native.Nat.{_+_, _≤_};
 ghost use lib.ListN.{length};
 ghost use Rattle.book.specs.Bytes.{bytesAt, figureOk, figureRefusal, figureIn};
 
-const FIGURE_BYTES: u64 = 8;
+pub const FIGURE_BYTES: u64 = 8;
 
 // The bytes of a book for each quarter hour: 1,296.
-const BOOK_BYTES: u64 = FIGURE_BYTES * limits::BOOK_ROWS;
+pub const BOOK_BYTES: u64 = FIGURE_BYTES * limits::BOOK_ROWS;
 
 // How many values a byte has.
 pub const BYTE: u64 = 256;
@@ -27,7 +27,7 @@ fn wide(b: u8) -> u64
 }
 
 // The word of eight bytes.
-fn word_at(book: &[u8], at: usize) -> u64
+pub fn word_at(book: &[u8], at: usize) -> u64
     requires { ⌜ at + 8 ≤ length (now book) ⌝ }
     ensures { λ r. ⌜ r ≡ bytesAt (now (book .entry)) at ⌝ }
 {

@@ -1,4 +1,4 @@
-// Open: the state is made anew, whatever the old one held, and the book is all 0.
+// Open: the state is made anew, whatever the old one held, and book and schedules are all 0.
 use checks::Decided;
 use checks::Outcome;
 use checks::decisions::accept;
@@ -20,12 +20,12 @@ ghost use lib.ListN.{length, replicate};
 ghost use Rattle.state.specs.Effect.{changedBy, Fits};
 ghost use Rattle.model.specs.Call.{opens, telling};
 ghost use Rattle.model.specs.Step.{refusalBy};
-ghost use Rattle.checks.specs.Stepped.{Stepped};
+ghost use Rattle.checks.specs.Stepped.{WholeStepped, storesOf};
 ghost use Rattle.checks.specs.Lent.{sizes};
 
 // It checks 6, then 4, and never cause 1.
 pub fn open_ruling(d: Desk, o: Opening, groups: [u64; DELTAS as usize]) -> Ruling
-    ensures { λ r. ⌜ r ≡ refusalBy d (telling (sizes (o .values) (o .book) (o .log)) (opens (o .quarters) (o .first .0) (o .clearing .0) (o .correction .0) groups)) ⌝ }
+    ensures { λ r. ⌜ r ≡ refusalBy d (telling (sizes (o .values) (o .book) (o .log) (o .schedules)) (opens (o .quarters) (o .first .0) (o .clearing .0) (o .correction .0) groups)) ⌝ }
 {
     let frame = d.frame;
     let opening = frame.opening;
@@ -33,16 +33,16 @@ pub fn open_ruling(d: Desk, o: Opening, groups: [u64; DELTAS as usize]) -> Rulin
     or_if(v, !(opening_ok(o) & groups_ok(groups)), Cause::BadOpening)
 }
 
-// All figures 0.
-pub fn clear(book: &mut [u64])
-    ensures { λ _. ⌜ now (book .exit) ≡ replicate (length (now (book .entry))) 0 ⌝ }
+// All numbers 0.
+pub fn clear(store: &mut [u64])
+    ensures { λ _. ⌜ now (store .exit) ≡ replicate (length (now (store .entry))) 0 ⌝ }
 {
-    for i in 0..book.len() {
-        book[i] = 0;
+    for i in 0..store.len() {
+        store[i] = 0;
     }
 }
 
-// What is decided; the book is cleared where it is accepted.
+// What is decided; book and schedules are cleared where it is accepted.
 pub fn decide_open(
     d: Desk,
     quarters: u64,
@@ -53,8 +53,9 @@ pub fn decide_open(
     values: &[u64],
     book: &mut [u64],
     log: &[u64],
+    schedules: &mut [u64],
 ) -> Decided
-    ensures { λ r. ⌜ Fits d (r .effect) × Stepped d (opens quarters (first .0) (clearing .0) (correction .0) groups) (now (values .entry)) (now (book .entry)) (now (log .entry)) (r .answer) (changedBy d (r .effect)) (now (values .entry)) (now (book .exit)) (now (log .entry)) ⌝ }
+    ensures { λ r. ⌜ Fits d (r .effect) × WholeStepped d (opens quarters (first .0) (clearing .0) (correction .0) groups) (storesOf (now (values .entry)) (now (book .entry)) (now (log .entry)) (now (schedules .entry))) (r .answer) (changedBy d (r .effect)) (storesOf (now (values .entry)) (now (book .exit)) (now (log .entry)) (now (schedules .exit))) ⌝ }
 {
     let o = Opening {
         quarters,
@@ -64,6 +65,7 @@ pub fn decide_open(
         values: values.len() as u64,
         book: book.len() as u64,
         log: log.len() as u64,
+        schedules: schedules.len() as u64,
     };
     let frame = d.frame;
     let v = open_ruling(d, o, groups);
@@ -71,6 +73,7 @@ pub fn decide_open(
         Ruling::Refuse(c) => refuse(frame, c),
         Ruling::Fine => {
             clear(book);
+            clear(schedules);
             accept(open_desk(o, groups))
         }
     }
@@ -86,8 +89,9 @@ pub fn open(
     values: &[u64],
     book: &mut [u64],
     log: &[u64],
+    schedules: &mut [u64],
 ) -> Outcome
-    ensures { λ r. ⌜ Stepped d (opens quarters (first .0) (clearing .0) (correction .0) groups) (now (values .entry)) (now (book .entry)) (now (log .entry)) (r .answer) (r .desk) (now (values .entry)) (now (book .exit)) (now (log .entry)) ⌝ }
+    ensures { λ r. ⌜ WholeStepped d (opens quarters (first .0) (clearing .0) (correction .0) groups) (storesOf (now (values .entry)) (now (book .entry)) (now (log .entry)) (now (schedules .entry))) (r .answer) (r .desk) (storesOf (now (values .entry)) (now (book .exit)) (now (log .entry)) (now (schedules .exit))) ⌝ }
 {
     let r = decide_open(
         d,
@@ -99,6 +103,7 @@ pub fn open(
         values,
         book,
         log,
+        schedules,
     );
     outcome(d, r)
 }

@@ -1,21 +1,20 @@
 -- The table of causes and the step, as a call's proof goes through them: check by check, then refused or granted. Assumes nothing.
 use Prim.Native.Nat.{ℕ, _*_}
 use mathlib.Core.Path.{_≡_, refl, sym, _∙_}
-use mathlib.Core.Bool.{Bool, true, false, not, _&&_, or-false}
+use mathlib.Core.Bool.{Bool, true, false, not, _&&_, _||_, or-false}
 use mathlib.Core.List.{List, [], _∷_}
 use borrow.Author.Tests.{eqb-true, not-false}
 use lib.Dec.{eqb}
 use Rattle.state.specs.Desk.{isOpen}
-use Rattle.quantity.specs.Limits.{quartersOk, deadlinesOk}
 use Rattle.quantity.specs.Lists.{fold}
-use Rattle.quantity.proofs.Tests.{and-left, and-right}
+use Rattle.quantity.proofs.Tests.{and-left, or-left, or-right}
 use Rattle.state.specs.Valid.{openingOk, validDesk}
 use Rattle.state.specs.declared.Desk.{Desk}
 use Rattle.state.specs.declared.Opening.{Opening}
 use Rattle.state.specs.Effect.{changedBy, unchangedIn, Fits}
-use Rattle.model.specs.Call.{Call, Stores, Told, Lengths, theBook, told}
+use Rattle.model.specs.Call.{Call, Stores, Told, Lengths, theBook, theSchedules, bookAndSchedules, told}
 use Rattle.model.specs.Causes.{Rule, terms, rule, rules, orIf, orRule, firstOf, otherLengths, opensOk}
-use Rattle.model.specs.Step.{refusalBy, granting, decided, step}
+use Rattle.model.specs.Step.{answering, refusalBy, granting, decided, step}
 use Rattle.model.specs.View.{viewOf}
 use Rattle.model.specs.declared.Answer.{Answer}
 use Rattle.model.specs.declared.Answer.the-variants.{Refused}
@@ -25,8 +24,9 @@ use Rattle.model.specs.declared.Ruling.{Ruling}
 use Rattle.model.specs.declared.Ruling.the-variants.{Fine, Refuse}
 use Rattle.checks.specs.Lent.{sizes}
 use Rattle.checks.specs.declared.Decided.{Decided}
-use Rattle.checks.specs.Stepped.{IsAnswer, IsBookStep, IsStep, lent}
+use Rattle.checks.specs.Stepped.{IsAnswer, IsBookStep, IsStep, IsScheduleStep, IsReport, IsWholeStep, lent}
 use Rattle.model.specs.Laws.{Passed}
+use Rattle.model.proofs.Invariant.{book-is, schedules-is}
 use Rattle.model.proofs.Rules.{passed}
 
 -- one check more: the verdict so far, and the test, as the table has them
@@ -68,7 +68,7 @@ module _ (d : Desk) (t : Told) (asked : terms (t .call) .opening ≡ false) wher
 
 -- lengths for a call that takes no store: any will do
 abbrev pub noLengths : Lengths
-noLengths = sizes 0 0 0
+noLengths = sizes 0 0 0 0
 
 -- cause 2 of a call that takes the book alone
 pub book-other : (n : Lengths) (o : Opening) → not (eqb (n .book) (o .book)) ≡ otherLengths theBook n o
@@ -79,13 +79,30 @@ book-other n o = sym (or-false (not (eqb (n .book) (o .book))))
 pub book-same : (n : Lengths) (o : Opening) → otherLengths theBook n o ≡ false → n .book ≡ o .book
 book-same n o e = eqb-true (n .book) (o .book) (not-false _ (book-other n o ∙ e))
 
--- an opening that is allowed has a book of 162 rows
-pub opens-book : (o : Opening) (gs : List ℕ) → opensOk o gs ≡ true → o .book ≡ 162 * o .quarters
-unfolding opensOk openingOk
-opens-book o gs e =
-    let q = quartersOk (o .quarters) in
-    let f = deadlinesOk (o .first .0) (o .clearing .0) (o .correction .0) in
-    eqb-true (o .book) (162 * o .quarters) (and-left _ _ (and-right f _ (and-right q _ (and-left (openingOk o) _ e))))
+-- the same of the schedules
+pub schedules-other : (n : Lengths) (o : Opening) → not (eqb (n .schedules) (o .schedules)) ≡ otherLengths theSchedules n o
+unfolding otherLengths
+schedules-other n o = sym (or-false (not (eqb (n .schedules) (o .schedules))))
+
+pub schedules-same : (n : Lengths) (o : Opening) → otherLengths theSchedules n o ≡ false → n .schedules ≡ o .schedules
+schedules-same n o e = eqb-true (n .schedules) (o .schedules) (not-false _ (schedules-other n o ∙ e))
+
+-- of both
+pub both-other : (n : Lengths) (o : Opening) → (not (eqb (n .schedules) (o .schedules)) || not (eqb (n .book) (o .book))) ≡ otherLengths bookAndSchedules n o
+unfolding otherLengths
+both-other n o = rw (or-false (not (eqb (n .book) (o .book))))
+
+pub both-same : (n : Lengths) (o : Opening) → otherLengths bookAndSchedules n o ≡ false → (n .schedules ≡ o .schedules) × (n .book ≡ o .book)
+both-same n o e =
+    let h = both-other n o ∙ e in (
+      eqb-true (n .schedules) (o .schedules) (not-false _ (or-left _ _ h)),
+      eqb-true (n .book) (o .book) (not-false _ (or-right (not (eqb (n .schedules) (o .schedules))) _ h)),
+    )
+
+-- an opening that is allowed has a book of 162 rows and 64 schedules
+pub opens-lengths : (o : Opening) (gs : List ℕ) → opensOk o gs ≡ true → (o .book ≡ 162 * o .quarters) × (o .schedules ≡ 64 * o .quarters)
+unfolding opensOk
+opens-lengths o gs e = let ok = and-left (openingOk o) _ e in (book-is o ok, schedules-is o ok)
 
 -- what a refusal decides
 pub unmoved : (d : Desk) {x : Cause} {r : Decided} → (r .answer ≡ Refused x) × (r .effect ≡ unchangedIn (d .frame))
@@ -94,7 +111,7 @@ unmoved d h = (rw (h .1) tt, (h .0, rw (h .1)))
 
 module _ (d : Desk) (c : Call) (s : Stores) {v : Ruling} (e : v ≡ refusalBy d (told (lent c s))) where
   -- a refused call changes nothing
-  pub refused : {x : Cause} → v ≡ Refuse x → step d (lent c s) ≡ record { answer = Refused x; part = []; desk = d; stores = s }
+  pub refused : {x : Cause} → v ≡ Refuse x → step d (lent c s) ≡ answering (Refused x) d s
   unfolding step decided
   refused h = rw (sym e ∙ h)
 
@@ -117,9 +134,30 @@ module _ (d : Desk) (c : Call) (s : Stores) {v : Ruling} (e : v ≡ refusalBy d 
   pub book-granted : {a : Answer} {n : Desk} {book : List ℕ} → v ≡ Fine → IsBookStep (granting d s c) a n book → IsBookStep (step d (lent c s)) a n book
   book-granted h g = rw (granted h) g
 
-  -- of one that takes them all
+  -- of one that takes values, book and log
   pub all-refused : {x : Cause} {a : Answer} {n : Desk} → v ≡ Refuse x → (a ≡ Refused x) × (n ≡ d) → IsStep (step d (lent c s)) a n (s .values) (s .book) (s .log)
   all-refused h r = rw (refused h) (record { answered = r .0; held = r .1; valued = refl; booked = refl; noted = refl })
 
   pub all-granted : {a : Answer} {n : Desk} {values book log : List ℕ} → v ≡ Fine → IsStep (granting d s c) a n values book log → IsStep (step d (lent c s)) a n values book log
   all-granted h g = rw (granted h) g
+
+  -- of one that takes the schedules
+  pub schedule-refused : {x : Cause} {a : Answer} {n : Desk} → v ≡ Refuse x → (a ≡ Refused x) × (n ≡ d) → IsScheduleStep (step d (lent c s)) a n (s .schedules)
+  schedule-refused h r = rw (refused h) (record { answered = r .0; held = r .1; planned = refl })
+
+  pub schedule-granted : {a : Answer} {n : Desk} {schedules : List ℕ} → v ≡ Fine → IsScheduleStep (granting d s c) a n schedules → IsScheduleStep (step d (lent c s)) a n schedules
+  schedule-granted h g = rw (granted h) g
+
+  -- of one that gives two sums
+  pub report-refused : {x : Cause} {a : Answer} → v ≡ Refuse x → a ≡ Refused x → IsReport (step d (lent c s)) a 0 0
+  report-refused h r = rw (refused h) (record { answered = r; over = refl; under = refl })
+
+  pub report-granted : {a : Answer} {surplus shortfall : ℕ} → v ≡ Fine → IsReport (granting d s c) a surplus shortfall → IsReport (step d (lent c s)) a surplus shortfall
+  report-granted h g = rw (granted h) g
+
+  -- of one that takes every store
+  pub whole-refused : {x : Cause} {a : Answer} {n : Desk} → v ≡ Refuse x → (a ≡ Refused x) × (n ≡ d) → IsWholeStep (step d (lent c s)) a n s
+  whole-refused h r = rw (refused h) (record { answered = r .0; held = r .1; left = refl })
+
+  pub whole-granted : {a : Answer} {n : Desk} {u : Stores} → v ≡ Fine → IsWholeStep (granting d s c) a n u → IsWholeStep (step d (lent c s)) a n u
+  whole-granted h g = rw (granted h) g

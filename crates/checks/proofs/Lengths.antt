@@ -9,7 +9,7 @@ use lib.Dec.{eqb}
 use lib.ListN.{length}
 use Rattle.quantity.proofs.Tests.{or-left, or-right}
 use Rattle.state.specs.declared.Opening.{Opening}
-use Rattle.model.specs.Call.{everyStore}
+use Rattle.model.specs.Call.{Lengths, allButSchedules}
 use Rattle.model.specs.Causes.{otherLengths, logFull}
 use Rattle.checks.specs.Lent.{lengthsIn}
 use Rattle.checks.specs.declared.Sizes.{Sizes}
@@ -17,10 +17,10 @@ use Rattle.checks.specs.declared.Sizes.{Sizes}
 same : (a b : ℕ) → not (eqb a b) ≡ false → a ≡ b
 same a b e = eqb-true a b (not-false (eqb a b) e)
 
--- all three stores have their opening lengths
-pub lengths : (n : Sizes) (o : Opening) → otherLengths everyStore (lengthsIn n) o ≡ false → (n .values ≡ o .values) × (n .book ≡ o .book) × (n .log ≡ o .log)
+-- values, book and log have their opening lengths
+pub lengths : (m : Lengths) (n : Sizes) (o : Opening) → otherLengths allButSchedules (lengthsIn m n) o ≡ false → (n .values ≡ o .values) × (n .book ≡ o .book) × (n .log ≡ o .log)
 unfolding otherLengths
-lengths n o e =
+lengths m n o e =
     let r = or-right (not (eqb (n .values) (o .values))) _ e in (
       same (n .values) (o .values) (or-left (not (eqb (n .values) (o .values))) _ e),
       same (n .book) (o .book) (or-left (not (eqb (n .book) (o .book))) _ r),

@@ -5,17 +5,21 @@ use lib.ListN.{length}
 use Rattle.model.specs.Call.{Lengths}
 use Rattle.checks.specs.declared.Sizes.{Sizes}
 
--- of values, book and log
-abbrev pub sizes : (values book log : ℕ) → Lengths
-sizes values book log = record { values = values; book = book; log = log }
+-- of all stores
+abbrev pub sizes : (values book log schedules : ℕ) → Lengths
+sizes values book log schedules = record { values = values; book = book; log = log; schedules = schedules }
 
 -- with another length of the book
 abbrev pub withBookLength : Lengths → (book : ℕ) → Lengths
-withBookLength n book = record { values = n .values; book = book; log = n .log }
+withBookLength n book = record { values = n .values; book = book; log = n .log; schedules = n .schedules }
 
--- as the code has them
-abbrev pub lengthsIn : Sizes → Lengths
-lengthsIn n = sizes (n .values) (n .book) (n .log)
+-- of the schedules
+abbrev pub withSchedulesLength : Lengths → (schedules : ℕ) → Lengths
+withSchedulesLength n schedules = record { values = n .values; book = n .book; log = n .log; schedules = schedules }
+
+-- with those of values, book and log that the code has
+abbrev pub lengthsIn : Lengths → Sizes → Lengths
+lengthsIn m n = record { values = n .values; book = n .book; log = n .log; schedules = m .schedules }
 
 -- those of the stores
 abbrev pub sizesOf : (values book log : List ℕ) → Sizes

@@ -6,6 +6,7 @@ pub mod numbers;
 pub mod picks;
 pub mod points;
 pub mod rules;
+pub mod series;
 pub mod stores;
 pub mod surveys;
 
@@ -52,7 +53,7 @@ pub struct Look {
     pub survey: Survey,
 }
 
-// The lengths of the stores lent to a call.
+// The lengths of values, book and log as they are lent to a call.
 pub struct Sizes {
     pub values: u64,
     pub book: u64,

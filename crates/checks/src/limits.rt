@@ -3,6 +3,7 @@ use quantity::Day;
 use quantity::PointNo;
 use quantity::limits::BOOK_ROWS;
 use quantity::limits::DELTAS;
+use quantity::limits::SCHEDULE_ROWS;
 use quantity::limits::VERSIONS;
 use quantity::limits::area_ok;
 use quantity::limits::day_ok;
@@ -78,7 +79,8 @@ pub fn opening_ok(o: Opening) -> bool
         return false;
     }
     deadlines_ok(first, clearing, correction)
-        & ((o.book == BOOK_ROWS * o.quarters) & (o.log % 4 == 0))
+        & ((o.book == BOOK_ROWS * o.quarters)
+            & ((o.log % 4 == 0) & (o.schedules == SCHEDULE_ROWS * o.quarters)))
 }
 
 pub fn groups_ok(groups: [u64; DELTAS as usize]) -> bool

@@ -4,13 +4,13 @@ use model::Due;
 use state::Opening;
 ghost use mathlib.Core.Path.{_≡_};
 ghost use Prim.Native.Nat.{_*_, _≤_};
-ghost use Rattle.model.specs.Call.{everyStore};
+ghost use Rattle.model.specs.Call.{Lengths, allButSchedules};
 ghost use Rattle.model.specs.Causes.{otherLengths, logFull};
 ghost use Rattle.checks.specs.Lent.{lengthsIn};
 
-// Cause 2: a store in another length than at the opening.
+// Cause 2: values, book or log in another length than at the opening.
 pub fn other_lengths(o: Opening, n: Sizes) -> bool
-    ensures { λ r. ⌜ r ≡ otherLengths everyStore (lengthsIn n) o ⌝ }
+    ensures { λ r. ⌜ ((m : Lengths) → r ≡ otherLengths allButSchedules (lengthsIn m n) o) ⌝ }
 {
     (n.values != o.values) | ((n.book != o.book) | (n.log != o.log))
 }

@@ -37,6 +37,7 @@ fn with_opening(o: Opening, which: u64, a: u64) -> Opening {
         values: one_of(which == 5, a, o.values),
         book: one_of(which == 6, a, o.book),
         log: one_of(which == 7, a, o.log),
+        schedules: one_of(which == 17, a, o.schedules),
     }
 }
 

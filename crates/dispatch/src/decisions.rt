@@ -20,7 +20,7 @@ ghost use Rattle.quantity.specs.Word.{signed};
 ghost use Rattle.state.specs.Effect.{changedBy, Fits};
 ghost use Rattle.model.specs.Causes.{terms};
 ghost use Rattle.checks.specs.Look.{Looked};
-ghost use Rattle.checks.specs.Stepped.{Stepped};
+ghost use Rattle.checks.specs.Stepped.{WholeStepped, storesOf};
 ghost use Rattle.dispatch.specs.Asked.{asked};
 
 // By one look at the desk. The groups are an opening's, the series a submission's energies, as many as it has.
@@ -33,9 +33,10 @@ pub fn decide(
     values: &mut [u64],
     book: &mut [u64],
     log: &mut [u64],
+    schedules: &mut [u64],
 ) -> Decided
     requires { ⌜ Looked d (terms (asked call groups (map signed (now series))) .asks) l ⌝ }
-    ensures { λ r. ⌜ Fits d (r .effect) × Stepped d (asked call groups (map signed (now (series .entry)))) (now (values .entry)) (now (book .entry)) (now (log .entry)) (r .answer) (changedBy d (r .effect)) (now (values .exit)) (now (book .exit)) (now (log .exit)) ⌝ }
+    ensures { λ r. ⌜ Fits d (r .effect) × WholeStepped d (asked call groups (map signed (now (series .entry)))) (storesOf (now (values .entry)) (now (book .entry)) (now (log .entry)) (now (schedules .entry))) (r .answer) (changedBy d (r .effect)) (storesOf (now (values .exit)) (now (book .exit)) (now (log .exit)) (now (schedules .exit))) ⌝ }
 {
     match call {
         DeskCall::Open {
@@ -53,6 +54,7 @@ pub fn decide(
             values,
             book,
             log,
+            schedules,
         ),
         DeskCall::Activate {
             point,
@@ -87,10 +89,11 @@ pub fn answer(
     values: &mut [u64],
     book: &mut [u64],
     log: &mut [u64],
+    schedules: &mut [u64],
 ) -> Outcome
-    ensures { λ r. ⌜ Stepped d (asked call groups (map signed (now (series .entry)))) (now (values .entry)) (now (book .entry)) (now (log .entry)) (r .answer) (r .desk) (now (values .exit)) (now (book .exit)) (now (log .exit)) ⌝ }
+    ensures { λ r. ⌜ WholeStepped d (asked call groups (map signed (now (series .entry)))) (storesOf (now (values .entry)) (now (book .entry)) (now (log .entry)) (now (schedules .entry))) (r .answer) (r .desk) (storesOf (now (values .exit)) (now (book .exit)) (now (log .exit)) (now (schedules .exit))) ⌝ }
 {
     let l = look(d, asks_of(call));
-    let r = decide(d, l, call, groups, series, values, book, log);
+    let r = decide(d, l, call, groups, series, values, book, log, schedules);
     outcome(d, r)
 }

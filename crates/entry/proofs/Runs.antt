@@ -1,12 +1,9 @@
--- A run of the nine calls of the code is the run that demand 3 speaks of. Assumes nothing.
+-- A run of the eleven calls of the code is the run that demand 3 speaks of. Assumes nothing.
 use Prim.Native.Nat.{ℕ}
 use mathlib.Core.Path.{_≡_, refl, sym, ap, _∙_, subst}
 use mathlib.Core.Bool.{Bool, true, false, false≢true}
 use mathlib.Core.List.{List, [], _∷_, map}
-use native.Mathlib.Omega.{arith}
 use lib.IntN.{ℤ}
-use lib.ListN.{length}
-use Rattle.quantity.specs.Lists.{any}
 use Rattle.quantity.specs.Word.{signed}
 use Rattle.message.specs.declared.DeskCall.{DeskCall}
 use Rattle.message.specs.declared.DeskCall.the-variants.{Open, Activate, Deactivate, Submit, Notice, Assign, Settle}
@@ -14,58 +11,63 @@ use Rattle.state.specs.Desk.{freshDesk}
 use Rattle.state.specs.declared.Desk.{Desk}
 use Rattle.state.specs.declared.Opening.{Opening}
 use Rattle.model.specs.Agreement.{Running, IsOwn, Own, leftIn, left, next, Chained, replies, end, fresh, Agree}
-use Rattle.model.specs.Call.{Call, opens, shows, asks, Taken, everyStore, Stores, Lent, told, Reply, answerNumber}
+use Rattle.model.specs.Call.{Call, opens, shows, asks, lodges, reports, everyStore, Stores, told, Reply, answerNumber}
 use Rattle.model.specs.Causes.{takes}
-use Rattle.model.specs.Plain.{plainReplies, plainEnd}
-use Rattle.model.specs.Step.{step, granting, decided, refusalBy, replyOf}
+use Rattle.model.specs.Plain.{plainly, plainReplies, plainEnd}
+use Rattle.model.specs.Step.{Outcome, answering, step, granting, decided, refusalBy, replyOf, withSchedules}
 use Rattle.model.specs.declared.Answer.{Answer}
-use Rattle.model.specs.declared.Answer.the-variants.{Accepted, HasStatus, Refused}
+use Rattle.model.specs.declared.Answer.the-variants.{Refused}
+use Rattle.model.specs.declared.Cause.{Cause}
 use Rattle.model.specs.declared.Ruling.{Ruling}
 use Rattle.model.specs.declared.Ruling.the-variants.{Fine, Refuse}
 use Rattle.model.proofs.Lending.{left-in}
 use Rattle.model.proofs.Main.{agree}
-use Rattle.checks.specs.Stepped.{IsStep, lent, storesOf}
+use Rattle.checks.specs.Stepped.{IsWholeStep, ScheduleStepped, Answered, lent, storesOf}
 use Rattle.dispatch.specs.Asked.{asked}
-use Rattle.entry.specs.Entered.{Entered, byOpen, byApply, byShow, byStatus, callOf, lendingOf, lentOf, replyIn, deskAfter, storesAfter, Meets, leftBy, endOf, Run, LentOn, onAfter, Onward}
+use Rattle.entry.specs.Entered.{Entered, byOpen, byApply, byShow, byStatus, byLodge, byReport, callOf, lendingOf, lentOf, replyIn, deskAfter, storesAfter, Meets, leftBy, endOf, Run, LentOn, onAfter, Onward}
 use Rattle.calls.proofs.Parts.{empty-exactly}
-use Rattle.checks.proofs.Untaken.{values-kept, book-kept, log-kept, none-taken}
+use Rattle.checks.proofs.Untaken.{values-kept, book-kept, log-kept, schedules-kept, none-taken, unplanned, schedules-taken}
 
 -- ---- one entry
 
--- a call that shows nothing when it is accepted shows nothing
-no-part : (d : Desk) (s : Stores) (c : Call) → granting d s c .part ≡ [] → step d (lent c s) .part ≡ []
+-- what is so of a call where it is accepted and where it is refused
+ruled : (P : Outcome → Type 0) (d : Desk) (s : Stores) (c : Call) → P (granting d s c) → ((x : Cause) → P (answering (Refused x) d s)) → P (step d (lent c s))
 unfolding step decided
-no-part d s c e = go (refusalBy d (told (lent c s)))
+ruled P d s c e h = go (refusalBy d (told (lent c s)))
   where
-    go : (v : Ruling) → decided v d s c .part ≡ []
+    go : (v : Ruling) → P (decided v d s c)
     go Fine = e
-    go (Refuse x) = refl
+    go (Refuse x) = h x
 
--- so do all that `apply` is asked
-asked-part : (d : Desk) (s : Stores) (c : DeskCall) (groups : List ℕ) (energies : List ℤ) → granting d s (asked c groups energies) .part ≡ []
+-- it shows and reports nothing
+abbrev Bare : Outcome → Type 0
+Bare o = replyOf o ≡ plainly (o .answer)
+
+-- so do all that `apply` is asked, when they are accepted
+asked-bare : (d : Desk) (s : Stores) (c : DeskCall) (groups : List ℕ) (energies : List ℤ) → Bare (granting d s (asked c groups energies))
 unfolding asked
-asked-part d s (Open q f c k) gs es = refl
-asked-part d s (Activate p k a b day) gs es = refl
-asked-part d s (Deactivate p day) gs es = refl
-asked-part d s (Submit p x day) gs es = refl
-asked-part d s (Notice p x y day) gs es = refl
-asked-part d s (Assign a g day) gs es = refl
-asked-part d s (Settle r day) gs es = refl
+asked-bare d s (Open q f c k) gs es = refl
+asked-bare d s (Activate p k a b day) gs es = refl
+asked-bare d s (Deactivate p day) gs es = refl
+asked-bare d s (Submit p x day) gs es = refl
+asked-bare d s (Notice p x y day) gs es = refl
+asked-bare d s (Assign a g day) gs es = refl
+asked-bare d s (Settle r day) gs es = refl
 
--- show leaves the desk and the stores as they are
-show-keeps : (d : Desk) (s : Stores) (run group : ℕ) → (step d (lent (shows run group) s) .desk ≡ d) × (step d (lent (shows run group) s) .stores ≡ s)
-unfolding step decided
-show-keeps d s run group = go (refusalBy d (told (lent (shows run group) s)))
-  where
-    go : (v : Ruling) → (decided v d s (shows run group) .desk ≡ d) × (decided v d s (shows run group) .stores ≡ s)
-    go Fine = (refl, refl)
-    go (Refuse x) = (refl, refl)
+-- the desk and the stores stay as they are
+record Kept (d : Desk) (s : Stores) (o : Outcome) : Type 0 where
+  desk : o .desk ≡ d
+  stores : o .stores ≡ s
+
+-- so they do where a call changes nothing when it is accepted
+keeps : (d : Desk) (s : Stores) (c : Call) → Kept d s (granting d s c) → Kept d s (step d (lent c s))
+keeps d s c k = ruled (Kept d s) d s c k (λ _. record { desk = refl; stores = refl })
 
 -- "the part is empty exactly when the number is not 0", of the two entries over the same input
 pub show-empty : (d : Desk) (run group : ℕ) (book : List ℕ) (a : Answer) (part : List ℕ) → Meets d (byShow run group book a part)
     → (part ≡ [] → answerNumber a ≡ 0 → ⊥) × ((answerNumber a ≡ 0 → ⊥) → part ≡ [])
 show-empty d run group book a part m =
-    let s = storesOf [] book [] in
+    let s = storesOf [] book [] [] in
     let e = empty-exactly d run group s in
     let same = ap answerNumber (m .0 s) in
     (λ p z. e .0 (sym (m .1 s) ∙ p) (sym same ∙ z), λ n. m .1 s ∙ e .1 (λ z. n (same ∙ z)))
@@ -76,29 +78,47 @@ record Steps (d : Desk) (e : Entered) : Type 0 where
   desk : step d (lentOf e) .desk ≡ deskAfter d e
   stores : step d (lentOf e) .stores ≡ storesAfter e
 
--- one that shows nothing
-stepped : (d : Desk) (e : Entered) (a : Answer) → replyIn e ≡ record { answer = a; row = [] } → granting d (lendingOf e) (callOf e) .part ≡ []
-    → IsStep (step d (lentOf e)) a (deskAfter d e) (storesAfter e .values) (storesAfter e .book) (storesAfter e .log) → Steps d e
+-- one that shows and reports nothing
+stepped : (d : Desk) (e : Entered) (a : Answer) → replyIn e ≡ plainly a → Bare (granting d (lendingOf e) (callOf e))
+    → IsWholeStep (step d (lentOf e)) a (deskAfter d e) (storesAfter e) → Steps d e
 stepped d e a z p o =
     record {
-      replied = (λ i. record { answer = sym (o .answered) i; row = map signed (no-part d (lendingOf e) (callOf e) p i) }) ∙ sym z;
+      replied = ruled Bare d (lendingOf e) (callOf e) p (λ _. refl) ∙ ap plainly (sym (o .answered)) ∙ sym z;
       desk = sym (o .held);
-      stores = λ i. record { values = sym (o .valued) i; book = sym (o .booked) i; log = sym (o .noted) i };
+      stores = sym (o .left);
     }
 
+-- a status takes no store
+status-left : (d : Desk) (p x : ℕ) (s : Stores) {a : Answer} {desk : Desk} → Answered d (asks p x) a desk → IsWholeStep (step d (lent (asks p x) s)) a desk s
+status-left d p x s m = unplanned d (asks p x) s refl (none-taken d (asks p x) s refl (m s))
+
 meets : (d : Desk) (e : Entered) → Meets d e → Steps d e
-meets d (byOpen q f c k gs lending a desk book) m = stepped d (byOpen q f c k gs lending a desk book) a refl refl (m lending)
+meets d (byOpen q f c k gs lending a desk book schedules) m = stepped d (byOpen q f c k gs lending a desk book schedules) a refl refl m
 meets d (byApply call gs es lending a desk stores) m =
-    stepped d (byApply call gs es lending a desk stores) a refl (asked-part d lending call gs (map signed es)) (m lending)
+    stepped d (byApply call gs es lending a desk stores) a refl (asked-bare d lending call gs (map signed es)) m
 meets d (byShow run group book a part) m =
-    let s = storesOf [] book [] in
+    let s = storesOf [] book [] [] in
+    let kept = keeps d s (shows run group) (record { desk = refl; stores = refl }) in
+    let sums = ruled (λ (o : Outcome). (o .surplus ≡ 0) × (o .shortfall ≡ 0)) d s (shows run group) (refl, refl) (λ _. (refl, refl)) in
     record {
-      replied = λ i. record { answer = sym (m .0 s) i; row = map signed (sym (m .1 s) i) };
-      desk = show-keeps d s run group .0;
-      stores = show-keeps d s run group .1;
+      replied = λ i. record { answer = sym (m .0 s) i; row = map signed (sym (m .1 s) i); surplus = signed (sums .0 i); shortfall = signed (sums .1 i) };
+      desk = kept .desk;
+      stores = kept .stores;
     }
-meets d (byStatus p x a desk) m =
-    stepped d (byStatus p x a desk) a refl refl (none-taken d (asks (p .0) (x .0)) (storesOf [] [] []) refl (m (storesOf [] [] [])))
+meets d (byStatus p x a desk) m = stepped d (byStatus p x a desk) a refl refl (status-left d (p .0) (x .0) (storesOf [] [] [] []) m)
+meets d (byLodge group day es schedules a desk schedules′) m =
+    let s = storesOf [] [] [] schedules in
+    stepped d (byLodge group day es schedules a desk schedules′) a refl refl (schedules-taken d (lodges group (day .0) (map signed es)) s refl (m s))
+meets d (byReport run group book schedules a surplus shortfall) m =
+    let s = storesOf [] book [] schedules in
+    let kept = keeps d s (reports run group) (record { desk = refl; stores = refl }) in
+    let part = ruled (λ (o : Outcome). o .part ≡ []) d s (reports run group) refl (λ _. refl) in
+    record {
+      replied = λ i.
+          record { answer = sym (m s .answered) i; row = map signed (part i); surplus = signed (sym (m s .over) i); shortfall = signed (sym (m s .under) i) };
+      desk = kept .desk;
+      stores = kept .stores;
+    }
 
 entry-next : (r : Running) (e : Entered) → Meets (r .desk) e → next r (lentOf e) ≡ leftBy r e
 unfolding next leftBy
@@ -125,8 +145,8 @@ unfolding Run end endOf
 ends r [] R = refl
 ends r (e ∷ es) R = ap (λ (x : Running). end x (map lentOf es)) (entry-next r e (R .0)) ∙ ends (leftBy r e) es (R .2)
 
--- demand 3 for the code: in every run of its nine calls, on a fresh desk and whatever the stores hold, the answers that they gave, show's row
--- included, agree with the plain desk, and so does the desk as the last one left it, with the stores of its opening
+-- demand 3 for the code: in every run of its eleven calls, on a fresh desk and whatever the stores hold, the answers that they gave, show's row
+-- and a report's sums included, agree with the plain desk, and so does the desk as the last one left it, with the stores of its opening
 pub entries-agree : (s : Stores) (es : List Entered) → Run (fresh s) es
     → Agree (map replyIn es) (endOf (fresh s) es) (plainReplies [] (map told (map lentOf es))) (plainEnd [] (map told (map lentOf es)))
 entries-agree s es R =
@@ -144,46 +164,90 @@ own-after true o o′ n own lending after h w = λ _ _ z. sym (left-in (n o′) 
 own-after false o o′ n own lending after h w =
     subst (λ (x : Opening). IsOwn x true (n x) own after) (sym (h refl .0)) (subst (λ (x : List ℕ). IsOwn o true (n o) own x) (sym (h refl .1)) w)
 
--- after a step on all three stores
-step-own : (d e : Desk) (c : Call) (own s after : Stores) {a : Answer} → IsStep (step d (lent c s)) a e (after .values) (after .book) (after .log)
+-- after a step on all four stores
+step-own : (d e : Desk) (c : Call) (own s after : Stores) {a : Answer} → IsWholeStep (step d (lent c s)) a e after
     → Own (d .frame .opening) everyStore own s → Own (e .frame .opening) everyStore (left (e .frame .opening) (takes c) own after) after
 step-own d e c own s after o w =
     let same : (e .frame .opening ≡ step d (lent c s) .desk .frame .opening) = ap (λ (x : Desk). x .frame .opening) (o .held) in
     let values = values-kept d c s in
     let book = book-kept d c s in
     let log = log-kept d c s in
+    let schedules = schedules-kept d c s in
+    let of : (f : Stores → List ℕ) → f after ≡ f (step d (lent c s) .stores) = λ f. ap f (o .left) in
     record {
-      values = own-after (takes c .values) (d .frame .opening) (e .frame .opening) (λ (x : Opening). x .values) _ _ _ (λ z. (same ∙ values z .0, o .valued ∙ values z .1)) (w .values);
-      book = own-after (takes c .book) (d .frame .opening) (e .frame .opening) (λ (x : Opening). x .book) _ _ _ (λ z. (same ∙ book z .0, o .booked ∙ book z .1)) (w .book);
-      log = own-after (takes c .log) (d .frame .opening) (e .frame .opening) (λ (x : Opening). x .log) _ _ _ (λ z. (same ∙ log z .0, o .noted ∙ log z .1)) (w .log);
+      values = own-after (takes c .values) (d .frame .opening) (e .frame .opening) (λ (x : Opening). x .values) _ _ _ (λ z. (same ∙ values z .0, of (λ (x : Stores). x .values) ∙ values z .1)) (w .values);
+      book = own-after (takes c .book) (d .frame .opening) (e .frame .opening) (λ (x : Opening). x .book) _ _ _ (λ z. (same ∙ book z .0, of (λ (x : Stores). x .book) ∙ book z .1)) (w .book);
+      log = own-after (takes c .log) (d .frame .opening) (e .frame .opening) (λ (x : Opening). x .log) _ _ _ (λ z. (same ∙ log z .0, of (λ (x : Stores). x .log) ∙ log z .1)) (w .log);
+      schedules = own-after (takes c .schedules) (d .frame .opening) (e .frame .opening) (λ (x : Opening). x .schedules) _ _ _ (λ z. (same ∙ schedules z .0, of (λ (x : Stores). x .schedules) ∙ schedules z .1)) (w .schedules);
     }
+
+-- a store that is lent as the last one left it and comes back as it was
+read-own : (o : Opening) (n : ℕ) (own lending kept : List ℕ) → lending ≡ kept → IsOwn o true n (leftIn true n own lending) kept
+read-own o n own lending kept z = λ _ _ y. sym (ap (leftIn true n own) z ∙ left-in n own kept y)
 
 -- the stores that an entry leaves are the opening's
 entry-own : (r : Running) (s : Stores) (e : Entered) → LentOn s e → Meets (r .desk) e → Own (r .desk .frame .opening) everyStore (r .stores) s
     → Own (deskAfter (r .desk) e .frame .opening) everyStore (leftBy r e .stores) (onAfter s e)
 unfolding leftBy
-entry-own r s (byOpen q f c k gs lending a desk book) z m w =
-    step-own (r .desk) desk (opens q (f .0) (c .0) (k .0) gs) (r .stores) lending _ (m lending) (subst (Own (r .desk .frame .opening) everyStore (r .stores)) (sym z) w)
+entry-own r s (byOpen q f c k gs lending a desk book schedules) z m w =
+    step-own (r .desk) desk (opens q (f .0) (c .0) (k .0) gs) (r .stores) lending _ m (subst (Own (r .desk .frame .opening) everyStore (r .stores)) (sym z) w)
 entry-own r s (byApply call gs es lending a desk stores) z m w =
-    step-own (r .desk) desk (asked call gs (map signed es)) (r .stores) lending stores (m lending) (subst (Own (r .desk .frame .opening) everyStore (r .stores)) (sym z) w)
+    step-own (r .desk) desk (asked call gs (map signed es)) (r .stores) lending stores m (subst (Own (r .desk .frame .opening) everyStore (r .stores)) (sym z) w)
 entry-own r s (byShow run group book a part) z m w =
+    let o = r .desk .frame .opening in
+    record { values = w .values; book = read-own o (o .book) (r .stores .book) book (s .book) z; log = w .log; schedules = w .schedules }
+entry-own r s (byStatus p x a desk) z m w = step-own (r .desk) desk (asks (p .0) (x .0)) (r .stores) s s (status-left (r .desk) (p .0) (x .0) s m) w
+entry-own r s (byLodge group day es schedules a desk schedules′) z m w =
+    let c = lodges group (day .0) (map signed es) in
+    let n = subst (λ (l : List ℕ). ScheduleStepped (r .desk) c l a desk schedules′) z m in
+    step-own (r .desk) desk c (r .stores) s (withSchedules s schedules′) (schedules-taken (r .desk) c s refl (n s)) w
+entry-own r s (byReport run group book schedules a surplus shortfall) z m w =
+    let o = r .desk .frame .opening in
     record {
       values = w .values;
-      book = λ _ _ y. sym (ap (leftIn true (r .desk .frame .opening .book) (r .stores .book)) z ∙ left-in (r .desk .frame .opening .book) (r .stores .book) (s .book) y);
+      book = read-own o (o .book) (r .stores .book) book (s .book) (z .0);
       log = w .log;
+      schedules = read-own o (o .schedules) (r .stores .schedules) schedules (s .schedules) (z .1);
     }
-entry-own r s (byStatus p x a desk) z m w =
-    step-own (r .desk) desk (asks (p .0) (x .0)) (r .stores) s s (none-taken (r .desk) (asks (p .0) (x .0)) s refl (m s)) w
+
+-- a store that is not taken
+untaken : (o : Opening) (n : ℕ) (own lending : List ℕ) → IsOwn o false n own lending
+untaken o n own lending = λ _ t. absurd (false≢true t)
 
 -- and those that were lent to it were
 lending-own : (o : Opening) (own s : Stores) (e : Entered) → LentOn s e → Own o everyStore own s → Own o (takes (callOf e)) own (lendingOf e)
-lending-own o own s (byOpen q f c k gs lending a desk book) z w = subst (Own o everyStore own) (sym z) w
+lending-own o own s (byOpen q f c k gs lending a desk book schedules) z w = subst (Own o everyStore own) (sym z) w
 lending-own o own s (byApply call gs es lending a desk stores) z w =
     let v = subst (Own o everyStore own) (sym z) w in
-    record { values = λ t _ y. v .values t refl y; book = λ t _ y. v .book t refl y; log = λ t _ y. v .log t refl y }
+    record { values = λ t _ y. v .values t refl y; book = λ t _ y. v .book t refl y; log = λ t _ y. v .log t refl y; schedules = λ t _ y. v .schedules t refl y }
 lending-own o own s (byShow run group book a part) z w =
-    record { values = λ _ t. absurd (false≢true t); book = subst (IsOwn o true (o .book) (own .book)) (sym z) (w .book); log = λ _ t. absurd (false≢true t) }
-lending-own o own s (byStatus p x a desk) z w = record { values = λ _ t. absurd (false≢true t); book = λ _ t. absurd (false≢true t); log = λ _ t. absurd (false≢true t) }
+    record {
+      values = untaken o (o .values) (own .values) [];
+      book = subst (IsOwn o true (o .book) (own .book)) (sym z) (w .book);
+      log = untaken o (o .log) (own .log) [];
+      schedules = untaken o (o .schedules) (own .schedules) [];
+    }
+lending-own o own s (byStatus p x a desk) z w =
+    record {
+      values = untaken o (o .values) (own .values) [];
+      book = untaken o (o .book) (own .book) [];
+      log = untaken o (o .log) (own .log) [];
+      schedules = untaken o (o .schedules) (own .schedules) [];
+    }
+lending-own o own s (byLodge group day es schedules a desk schedules′) z w =
+    record {
+      values = untaken o (o .values) (own .values) [];
+      book = untaken o (o .book) (own .book) [];
+      log = untaken o (o .log) (own .log) [];
+      schedules = subst (IsOwn o true (o .schedules) (own .schedules)) (sym z) (w .schedules);
+    }
+lending-own o own s (byReport run group book schedules a surplus shortfall) z w =
+    record {
+      values = untaken o (o .values) (own .values) [];
+      book = subst (IsOwn o true (o .book) (own .book)) (sym (z .0)) (w .book);
+      log = untaken o (o .log) (own .log) [];
+      schedules = subst (IsOwn o true (o .schedules) (own .schedules)) (sym (z .1)) (w .schedules);
+    }
 
 onward : (r : Running) (s : Stores) (es : List Entered) → Own (r .desk .frame .opening) everyStore (r .stores) s → Onward (r .desk) s es → Run r es
 unfolding Onward Run leftBy
@@ -193,4 +257,4 @@ onward r s (e ∷ es) w R =
 
 -- entries that are each lent the desk and the stores as the last one left them make such a run
 pub onward-run : (s : Stores) (es : List Entered) → Onward freshDesk s es → Run (fresh s) es
-onward-run s es R = onward (fresh s) s es (record { values = λ _ _ _. refl; book = λ _ _ _. refl; log = λ _ _ _. refl }) R
+onward-run s es R = onward (fresh s) s es (record { values = λ _ _ _. refl; book = λ _ _ _. refl; log = λ _ _ _. refl; schedules = λ _ _ _. refl }) R

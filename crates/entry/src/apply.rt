@@ -1,4 +1,4 @@
-// Every call that changes the desk, on the desk that is lent.
+// Every call that a message file carries, on the desk that is lent.
 use dispatch::decisions::answer as core;
 use message::DeskCall;
 use model::Answer;
@@ -6,7 +6,7 @@ use quantity::limits::DELTAS;
 use state::Desk;
 ghost use mathlib.Core.List.{map};
 ghost use Rattle.quantity.specs.Word.{signed};
-ghost use Rattle.checks.specs.Stepped.{Stepped};
+ghost use Rattle.checks.specs.Stepped.{WholeStepped, storesOf};
 ghost use Rattle.dispatch.specs.Asked.{asked};
 
 // The groups are an opening's, the series a submission's energies, as many as it has; of another call any. A store that the call does not
@@ -19,10 +19,11 @@ pub fn apply(
     values: &mut [u64],
     book: &mut [u64],
     log: &mut [u64],
+    schedules: &mut [u64],
 ) -> Answer
-    ensures { λ r. ⌜ Stepped (now (d .entry)) (asked call groups (map signed (now (series .entry)))) (now (values .entry)) (now (book .entry)) (now (log .entry)) r (now (d .exit)) (now (values .exit)) (now (book .exit)) (now (log .exit)) ⌝ }
+    ensures { λ r. ⌜ WholeStepped (now (d .entry)) (asked call groups (map signed (now (series .entry)))) (storesOf (now (values .entry)) (now (book .entry)) (now (log .entry)) (now (schedules .entry))) r (now (d .exit)) (storesOf (now (values .exit)) (now (book .exit)) (now (log .exit)) (now (schedules .exit))) ⌝ }
 {
-    let out = core(*d, call, groups, series, values, book, log);
+    let out = core(*d, call, groups, series, values, book, log, schedules);
     *d = out.desk;
     out.answer
 }

@@ -5,7 +5,7 @@ use quantity::Day;
 use quantity::limits::DELTAS;
 use state::Desk;
 ghost use Rattle.model.specs.Call.{opens};
-ghost use Rattle.checks.specs.Stepped.{Stepped};
+ghost use Rattle.checks.specs.Stepped.{WholeStepped, storesOf};
 
 // The 17 delta groups: T's, then those of the areas 1 to 16.
 pub fn open(
@@ -18,8 +18,9 @@ pub fn open(
     values: &[u64],
     book: &mut [u64],
     log: &[u64],
+    schedules: &mut [u64],
 ) -> Answer
-    ensures { λ r. ⌜ Stepped (now (d .entry)) (opens quarters (first .0) (clearing .0) (correction .0) groups) (now (values .entry)) (now (book .entry)) (now (log .entry)) r (now (d .exit)) (now (values .entry)) (now (book .exit)) (now (log .entry)) ⌝ }
+    ensures { λ r. ⌜ WholeStepped (now (d .entry)) (opens quarters (first .0) (clearing .0) (correction .0) groups) (storesOf (now (values .entry)) (now (book .entry)) (now (log .entry)) (now (schedules .entry))) r (now (d .exit)) (storesOf (now (values .entry)) (now (book .exit)) (now (log .entry)) (now (schedules .exit))) ⌝ }
 {
     let out = core(
         *d,
@@ -31,6 +32,7 @@ pub fn open(
         values,
         book,
         log,
+        schedules,
     );
     *d = out.desk;
     out.answer

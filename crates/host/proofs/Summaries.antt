@@ -71,7 +71,7 @@ module _ (file : List ℕ) (s : Stores) (buffer output : List ℕ) where
         rw (R .gives .answers) (take-at l (drop (length l) output) (r .answered) (answers-told s cs ∙ sym (R .answered)))
 
     -- a replay with its summary and tables
-    pub summaryed : (p q : Places) {b : Bool} {number offset : ℕ} {refused : Refusals} → b ≡ fitting p → b ≡ true
+    pub summarised : (p q : Places) {b : Bool} {number offset : ℕ} {refused : Refusals} → b ≡ fitting p → b ≡ true
         → offset ≡ endingOffset (length file) (r .ending)
         → (refused .count ≡ refusals (take (r .answered) output′)) × (refused .first ≡ firstRefused 1 (take (r .answered) output′))
         → q .summary ≡ over (listed (r .answered) offset (r .desk .frame .opening .quarters) (r .desk .frame .used) (r .desk .frame .count) (refused .count) (refused .first) (r .desk .frame .day .0) (r .desk .frame .settled)) (p .summary)
@@ -79,7 +79,7 @@ module _ (file : List ℕ) (s : Stores) (buffer output : List ℕ) where
         → q .versions ≡ over (versionTable (take (r .desk .frame .count) (r .desk .versions))) (p .versions)
         → number ≡ endingNumber (r .ending) → Summarised file s buffer output p number after buffer′ output′ q
     unfolding viewIn
-    summaryed p q e t o f summary points versions n =
+    summarised p q e t o f summary points versions n =
         let held = R .desk .view in
         let quarters = ap (λ (v : View). v .frame .opening .quarters) held in
         let used = ap (λ (v : View). v .frame .used) held in

@@ -5,6 +5,7 @@ pub mod figure;
 pub mod file;
 pub mod month;
 mod numbers;
+pub mod report;
 pub mod run;
 pub mod version;
 

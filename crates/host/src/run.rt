@@ -96,18 +96,19 @@ pub extern "C" fn emorizugu_replay(
     values: &mut [u64],
     book: &mut [u64],
     log: &mut [u64],
+    schedules: &mut [u64],
     series: &mut [u64],
     answers: &mut [u64],
     summary: &mut [u64],
     points: &mut [u64],
     versions: &mut [u64],
 ) -> u64
-    ensures { λ r. ⌜ Summarised (now (file .entry)) (storesOf (now (values .entry)) (now (book .entry)) (now (log .entry))) (now (series .entry)) (now (answers .entry)) (placesOf (now (summary .entry)) (now (points .entry)) (now (versions .entry))) r (storesOf (now (values .exit)) (now (book .exit)) (now (log .exit))) (now (series .exit)) (now (answers .exit)) (placesOf (now (summary .exit)) (now (points .exit)) (now (versions .exit))) ⌝ }
+    ensures { λ r. ⌜ Summarised (now (file .entry)) (storesOf (now (values .entry)) (now (book .entry)) (now (log .entry)) (now (schedules .entry))) (now (series .entry)) (now (answers .entry)) (placesOf (now (summary .entry)) (now (points .entry)) (now (versions .entry))) r (storesOf (now (values .exit)) (now (book .exit)) (now (log .exit)) (now (schedules .exit))) (now (series .exit)) (now (answers .exit)) (placesOf (now (summary .exit)) (now (points .exit)) (now (versions .exit))) ⌝ }
 {
     if !all_fit(summary.len(), points.len(), versions.len()) {
         return TOO_SHORT;
     }
-    let run = replay::replay(file, values, book, log, series, answers);
+    let run = replay::replay(file, values, book, log, schedules, series, answers);
     let ending = run.ending;
     let desk = run.desk;
     let f = desk.frame;

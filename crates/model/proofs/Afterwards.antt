@@ -12,7 +12,7 @@ use Rattle.state.specs.Version.{emptyVersion, newVersion, recordAt}
 use Rattle.state.specs.declared.PointState.the-variants.{Free, Active}
 use Rattle.state.specs.declared.VersionRecord.{VersionRecord}
 use Rattle.state.proofs.Settled.{submitted-number}
-use Rattle.model.specs.Call.{Call, opens, activates, deactivates, submits, notices, assigns, shows, asks, settles, Lengths, telling}
+use Rattle.model.specs.Call.{Call, opens, activates, deactivates, submits, notices, assigns, shows, asks, settles, lodges, reports, Lengths, telling}
 use Rattle.model.specs.Laws.{Opens, Sets, Delivers, dayBy}
 use Rattle.model.specs.Plain.{Worked, after}
 
@@ -22,7 +22,7 @@ sets-one z l i x = record { there = getD-set-same l i x z; others = λ j ne. get
 module _ (w : Worked) (n : Lengths) where
   pub opens-sets : (q f c k : ℕ) (gs : List ℕ) → Opens q f c k gs n (after (telling n (opens q f c k gs)) w)
   unfolding after fold
-  opens-sets q f c k gs = record { q = refl; f = refl; c = refl; k = refl; values = refl; book = refl; log = refl; given = refl }
+  opens-sets q f c k gs = record { q = refl; f = refl; c = refl; k = refl; values = refl; book = refl; log = refl; schedules = refl; given = refl }
 
   -- "a point is either free or active since a day, with its kind, area and partner": points are counted from 1, records from 0
   pub activates-sets : (i k a b d : ℕ)
@@ -76,3 +76,5 @@ module _ (w : Worked) (n : Lengths) where
   day-set (shows r g) = refl
   day-set (asks p x) = refl
   day-set (settles r d) = refl
+  day-set (lodges g d es) = refl
+  day-set (reports r g) = refl

@@ -50,5 +50,6 @@ assign-granted a g e d s h st H o P =
             valuesLong = K .valuesLong;
             logLong = K .logLong;
             logged = K .logged;
+            scheduled = K .scheduled;
           }));
     }

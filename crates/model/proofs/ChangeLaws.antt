@@ -30,7 +30,7 @@ use Rattle.state.specs.declared.VersionRecord.{VersionRecord}
 use Rattle.state.specs.declared.VersionRow.{VersionRow}
 use Rattle.state.proofs.Kept.{notice-negative, notice-other, settle-at, settle-same, settle-selected}
 use Rattle.state.proofs.Picks.{held-right, submit-other}
-use Rattle.model.specs.Call.{Call, opens, activates, deactivates, submits, notices, assigns, shows, asks, settles, Stores, Lengths, Lent, told, telling}
+use Rattle.model.specs.Call.{Call, opens, activates, deactivates, submits, notices, assigns, shows, asks, settles, lodges, reports, Stores, Lengths, Lent, told, telling}
 use Rattle.model.specs.Causes.{rules, notCheck, otherLengths}
 use Rattle.model.specs.Laws.{Passed, Confirms, OwesOne}
 use Rattle.model.specs.Plain.{Worked, after, viewBy}
@@ -132,6 +132,8 @@ one-owed w n (assigns a g d) = owes-none (w .versions) (w .versions) (λ r i. re
 one-owed w n (shows r g) = owes-none (w .versions) (w .versions) (λ r i. refl)
 one-owed w n (asks p x) = owes-none (w .versions) (w .versions) (λ r i. refl)
 one-owed w n (settles r d) = owes-none (w .versions) (settledBy r (w .versions)) (settle-same r (w .versions))
+one-owed w n (lodges g d es) = owes-none (w .versions) (w .versions) (λ r i. refl)
+one-owed w n (reports r g) = owes-none (w .versions) (w .versions) (λ r i. refl)
 
 -- ---- "the part is empty exactly when the number is not 0": an accepted show's part has Q figures, on a desk in any state
 

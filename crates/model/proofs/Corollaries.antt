@@ -17,7 +17,7 @@ use Rattle.state.specs.declared.Desk.{Desk}
 use Rattle.state.specs.declared.Held.{Held}
 use Rattle.state.specs.declared.Held.the-variants.{Absent, Has}
 use Rattle.model.specs.Agreement.{Running, Chained, end, fresh, bookFigure}
-use Rattle.model.specs.Call.{Call, opens, activates, deactivates, submits, notices, assigns, shows, asks, settles, Stores, Lengths, lengthsOf, Lent, Told, told, telling, causeNumber}
+use Rattle.model.specs.Call.{Call, opens, activates, deactivates, submits, notices, assigns, shows, asks, settles, lodges, reports, Stores, Lengths, lengthsOf, Lent, Told, told, telling, causeNumber}
 use Rattle.model.specs.Causes.{Rule, openingBy}
 use Rattle.model.specs.Demands.{Alike, Blind}
 use Rattle.model.specs.Log.{due}
@@ -77,6 +77,8 @@ granted-else d s (assigns a g day) e = not-refused NotOpen e
 granted-else d s (shows r g) e = not-refused NotOpen e
 granted-else d s (asks p x) e = status-else (held p x (versionsIn d)) e
 granted-else d s (settles r day) e = not-refused NotOpen e
+granted-else d s (lodges g day es) e = not-refused NotOpen e
+granted-else d s (reports r g) e = not-refused NotOpen e
 
 -- another cause than 1
 abbrev other : Cause → Bool
@@ -95,6 +97,8 @@ never-one d n (assigns a g e) v o = rw (v, o)
 never-one d n (shows r g) v o = rw (v, o)
 never-one d n (asks p x) v o = rw (v, o)
 never-one d n (settles r e) v o = rw (v, o)
+never-one d n (lodges g e es) v o = rw (v, o)
+never-one d n (reports r g) v o = rw (v, o)
 
 opened-else : {A : Type 0} (d : Desk) (s : Stores) (h : List Told) (x : Lent) → Holds d s h → step d x .answer ≡ Refused NotOpen → A
 unfolding step decided refusalBy
@@ -127,6 +131,8 @@ granted-blind d (assigns a g day) s t e = record { answer = refl; desk = refl; r
 granted-blind d (shows r g) s t e = record { answer = refl; desk = refl; row = Nothing; log = refl; otherLog = refl }
 granted-blind d (asks p x) s t e = record { answer = refl; desk = refl; row = Nothing; log = refl; otherLog = refl }
 granted-blind d (settles r day) s t e = record { answer = refl; desk = refl; row = Nothing; log = refl; otherLog = refl }
+granted-blind d (lodges g day es) s t e = record { answer = refl; desk = refl; row = Nothing; log = refl; otherLog = refl }
+granted-blind d (reports r g) s t e = record { answer = refl; desk = refl; row = Nothing; log = refl; otherLog = refl }
 
 decided-blind : (v : Ruling) (d : Desk) (c : Call) (s t : Stores) → lengthsOf s ≡ lengthsOf t → Alike d s t (decided v d s c) (decided v d t c)
 unfolding decided

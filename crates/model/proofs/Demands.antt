@@ -8,7 +8,7 @@ use Rattle.state.specs.declared.Held.the-variants.{Absent, Has}
 use Rattle.state.specs.Desk.{versionsIn}
 use Rattle.state.specs.Version.{held}
 use Rattle.model.specs.Agreement.{Running, Chained, next, replies, end, fresh, Agree}
-use Rattle.model.specs.Call.{Call, opens, activates, deactivates, submits, notices, assigns, shows, asks, settles, Stores, Lent, told}
+use Rattle.model.specs.Call.{Call, opens, activates, deactivates, submits, notices, assigns, shows, asks, settles, lodges, reports, Stores, Lent, told}
 use Rattle.model.specs.Demands.{Granted, Untouched, DemandOne, DemandTwo}
 use Rattle.model.specs.Plain.{plainReplies, plainEnd}
 use Rattle.model.specs.Step.{statusAnswer, granting, refusalBy, decided, step}
@@ -37,6 +37,8 @@ granted-so d s (assigns a g e) = refl
 granted-so d s (shows r g) = refl
 granted-so d s (asks p x) = status-granted p x (held p x (versionsIn d))
 granted-so d s (settles r e) = refl
+granted-so d s (lodges g e es) = refl
+granted-so d s (reports r g) = refl
 
 -- "A call accepted returns 0 (status: 1..5; show: the row)."
 granted : (d : Desk) (l : Lent) → Granted (l .call) (step d l .answer)
@@ -55,8 +57,10 @@ granted-keeps d s (submits p n day es) x e = not-refused x e
 granted-keeps d s (notices p n y day) x e = not-refused x e
 granted-keeps d s (assigns a g day) x e = not-refused x e
 granted-keeps d s (shows r g) x e = not-refused x e
-granted-keeps d s (asks p n) x e = record { desk = refl; stores = refl; part = refl }
+granted-keeps d s (asks p n) x e = record { desk = refl; stores = refl; part = refl; surplus = refl; shortfall = refl }
 granted-keeps d s (settles r day) x e = not-refused x e
+granted-keeps d s (lodges g day es) x e = not-refused x e
+granted-keeps d s (reports r g) x e = not-refused x e
 
 -- "a refused call leaves the desk, value store, book, log and output as they were"
 pub refused-keeps : (d : Desk) (l : Lent) (x : Cause) → step d l .answer ≡ Refused x → Untouched d (l .stores) (step d l)
@@ -65,7 +69,7 @@ refused-keeps d l x e = go (refusalBy d (told l)) e
   where
     go : (v : Ruling) → decided v d (l .stores) (l .call) .answer ≡ Refused x → Untouched d (l .stores) (decided v d (l .stores) (l .call))
     go Fine e = granted-keeps d (l .stores) (l .call) x e
-    go (Refuse y) e = record { desk = refl; stores = refl; part = refl }
+    go (Refuse y) e = record { desk = refl; stores = refl; part = refl; surplus = refl; shortfall = refl }
 
 pub demand-one : (d : Desk) (l : Lent) → DemandOne d l
 demand-one d l = record { answers = step-by-table d (l .stores) (l .call); granted = granted d l; keeps = refused-keeps d l }

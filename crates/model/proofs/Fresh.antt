@@ -11,22 +11,23 @@ use lib.ListN.{length, replicate, length-replicate}
 use Rattle.quantity.specs.Limits.{bookRows, deltas}
 use Rattle.quantity.specs.Lists.{all, fold}
 use Rattle.quantity.specs.Word.{word}
+use Rattle.quantity.proofs.Lists.{alike-at}
 use Rattle.quantity.proofs.Tests.{and-left, and-right}
 use Rattle.state.specs.Desk.{freshDesk, openDesk}
 use Rattle.state.specs.Point.{freePoint}
 use Rattle.state.specs.Valid.{openingOk, frameOk, validDesk}
 use Rattle.state.specs.declared.Desk.{Desk}
 use Rattle.model.specs.Agreement.{Running, next, fresh, Agree}
-use Rattle.model.specs.Call.{Call, opens, activates, deactivates, submits, notices, assigns, shows, asks, settles, Stores, lengthsOf, Lent, Told, told, Reply}
+use Rattle.model.specs.Call.{Call, opens, activates, deactivates, submits, notices, assigns, shows, asks, settles, lodges, reports, Stores, lengthsOf, Lent, Told, told, Reply}
 use Rattle.model.specs.Causes.{orIf, firstOf, openingBy, opensOk, refusal}
 use Rattle.model.specs.Log.{logNumbers}
 use Rattle.model.specs.Plain.{viewIn, answered, joined, plainReply, plainNext, workedOut, after}
-use Rattle.model.specs.Step.{withBook, refusalBy, decided, step, replyOf}
+use Rattle.model.specs.Step.{cleared, refusalBy, decided, step, replyOf}
 use Rattle.model.proofs.Figures.{figure-none}
-use Rattle.model.proofs.Invariant.{Holds, Granted, holds-open, book-is}
+use Rattle.model.proofs.Invariant.{Holds, Granted, holds-open, book-is, schedules-is}
 use Rattle.model.proofs.Lending.{left-every}
-use Rattle.model.proofs.Lists.{zeros-at}
 use Rattle.model.proofs.Points.{selected-none}
+use Rattle.model.proofs.Schedules.{none-scheduled}
 
 -- the desk before its opening, and after it
 pub data State (r : Running) (h : List Told) : Type 0 where
@@ -39,7 +40,7 @@ zero-word = refl
 
 -- "Book all 0; all points free, no versions, no log rows used; values and log untouched."
 module _ (q f c k : ℕ) (gs : List ℕ) (st : Stores) (ok : opensOk (openingBy q f c k (lengthsOf st)) gs ≡ true) where
-  pub opened-holds : Holds (openDesk (openingBy q f c k (lengthsOf st)) gs) (withBook st (replicate (bookRows * q) 0)) (record { call = opens q f c k gs; lengths = lengthsOf st } ∷ [])
+  pub opened-holds : Holds (openDesk (openingBy q f c k (lengthsOf st)) gs) (cleared q st) (record { call = opens q f c k gs; lengths = lengthsOf st } ∷ [])
   unfolding opensOk all viewIn logNumbers workedOut after fold
   opened-holds =
       let o = openingBy q f c k (lengthsOf st) in
@@ -58,11 +59,12 @@ module _ (q f c k : ℕ) (gs : List ℕ) (st : Stores) (ok : opensOk (openingBy 
               booked =
                   record {
                     size = length-replicate (bookRows * q) 0;
-                    at = λ run r j _ _ _ _. zeros-at (bookRows * q) _ ∙ sym zero-word ∙ ap word (sym (figure-none (replicate 256 freePoint) gs [] [] (λ x p. selected-none p [] refl x) run r j));
+                    at = λ run r j _ _ _ _. alike-at (bookRows * q) _ 0 ∙ sym zero-word ∙ ap word (sym (figure-none (replicate 256 freePoint) gs [] [] (λ x p. selected-none p [] refl x) run r j));
                   };
               valuesLong = refl;
               logLong = refl;
               logged = refl;
+              scheduled = none-scheduled q;
             };
       }
 
@@ -79,7 +81,7 @@ fresh-opens s st q f c k gs = go (opensOk (openingBy q f c k (lengthsOf st)) gs)
     go true e =
         let o = openingBy q f c k (lengthsOf st) in
         let H = opened-holds q f c k gs st e in
-        rw e (refl, holding (rw (left-every o s (withBook st (replicate (bookRows * q) 0)) refl (H .kept .booked .size ∙ sym (book-is o (H .kept .framed .opening))) refl) H))
+        rw e (refl, holding (rw (left-every o s (cleared q st) refl (H .kept .booked .size ∙ sym (book-is o (H .kept .framed .opening))) refl (H .kept .scheduled .size ∙ sym (schedules-is o (H .kept .framed .opening)))) H))
 
 fresh-base : (s st : Stores) (c : Call) → Step s (record { call = c; stores = st })
 unfolding Step step decided next plainReply plainNext answered joined refusalBy refusal firstOf fold orIf viewIn validDesk frameOk openingOk workedOut after
@@ -92,6 +94,8 @@ fresh-base s st (assigns a g e) = (refl, early refl refl)
 fresh-base s st (shows r g) = (refl, early refl refl)
 fresh-base s st (asks p x) = (refl, early refl refl)
 fresh-base s st (settles r e) = (refl, early refl refl)
+fresh-base s st (lodges g e es) = (refl, early refl refl)
+fresh-base s st (reports r g) = (refl, early refl refl)
 
 -- one call on an unopened desk
 pub fresh-step : (r : Running) (h : List Told) (l : Lent) → r .desk ≡ freshDesk → h ≡ [] → (replyOf (step (r .desk) l) ≡ plainReply h (told l)) × State (next r l) (plainNext h (told l))
@@ -113,6 +117,9 @@ none-yet given plain s e =
       figures = λ run k q _ _ _ l. absurd (omega arith);
       sum = λ run q _ _ l. absurd (omega arith);
       plainSum = λ run q _ _ l. absurd (omega arith);
+      schedules = λ g q _ _ l. absurd (omega arith);
+      deviation = λ run q _ _ l. absurd (omega arith);
+      plainDeviation = λ run q _ _ l. absurd (omega arith);
     }
 
 pub fresh-agree : (given plain : List Reply) (r : Running) (h : List Told) → given ≡ plain → r .desk ≡ freshDesk → h ≡ [] → Agree given r plain h

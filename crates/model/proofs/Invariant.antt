@@ -1,5 +1,5 @@
 -- What holds of the running desk and the accepted calls after each call of an opened desk. Assumes nothing.
-use Prim.Native.Nat.{ℕ, _*_, _≤_}
+use Prim.Native.Nat.{ℕ, _*_, _%_, _≤_}
 use mathlib.Core.Path.{_≡_, refl, sym, ap, _∙_, subst}
 use mathlib.Core.Bool.{Bool, true, false, not, _&&_}
 use mathlib.Core.List.{List, _∷_}
@@ -9,7 +9,7 @@ use lib.Dec.{eqb}
 use lib.IntN.{ℤ}
 use lib.ListN.{length, take}
 use lib.Seq.{length-take-le}
-use Rattle.quantity.specs.Limits.{points, versions, deltas, bookRows, quartersOk, deadlinesOk, dayOk, groupOk}
+use Rattle.quantity.specs.Limits.{points, versions, deltas, bookRows, scheduleRows, quartersOk, deadlinesOk, dayOk, groupOk}
 use Rattle.quantity.specs.Lists.{all, fold}
 use Rattle.quantity.proofs.Tests.{and-left, and-right, within-low}
 use Rattle.state.specs.Desk.{isOpen, frameOf, rowsIn, logRowsIn, versionsIn}
@@ -24,7 +24,7 @@ use Rattle.model.specs.Call.{Call, Stores, lengthsOf, Told}
 use Rattle.model.specs.Causes.{terms, takes, rules, orIf, firstOf, refusal}
 use Rattle.model.specs.Laws.{Passed}
 use Rattle.model.specs.Log.{logNumbers}
-use Rattle.model.specs.Plain.{Worked, worked, after, workedOut, openingOf, energiesOf, logOf, viewBy, viewIn, granted}
+use Rattle.model.specs.Plain.{Worked, worked, after, workedOut, openingOf, logOf, viewBy, viewIn, granted}
 use Rattle.model.specs.Series.{figureOf}
 use Rattle.model.specs.Step.{granting, refusalBy, replyOf}
 use Rattle.model.specs.View.{viewOf}
@@ -32,10 +32,12 @@ use Rattle.model.specs.declared.Cause.the-variants.{NotOpen}
 use Rattle.model.specs.declared.LogRow.{LogRow}
 use Rattle.model.proofs.Amends.{Stored}
 use Rattle.model.proofs.Books.{Booked}
+use Rattle.model.proofs.Schedules.{Scheduled}
 
--- the running desk as what is worked out, with the energies and the log rows of a list
-abbrev pub worksOut : Desk → List (List ℤ) → List LogRow → Worked
-worksOut d es l = worked (d .frame .opening) (d .frame .day .0) (d .points) (d .frame .groups) (versionsIn d) es l (d .frame .settled)
+-- the running desk as what is worked out, with what only a list has: energies, log rows and schedules
+abbrev pub worksOut : Desk → Worked → Worked
+worksOut d w =
+    worked (d .frame .opening) (d .frame .day .0) (d .points) (d .frame .groups) (versionsIn d) (w .energies) (w .log) (d .frame .settled) (w .schedules)
 
 -- ---- the invariant
 
@@ -77,6 +79,7 @@ pub record Kept (w : Worked) (s : Stores) : Type 0 where
   pub valuesLong : length (s .values) ≡ w .opening .values
   pub logLong : length (s .log) ≡ w .opening .log
   pub logged : take (4 * length (w .log)) (s .log) ≡ logNumbers (w .log)
+  pub scheduled : Scheduled (w .opening .quarters) (s .schedules) (w .schedules)
 
 -- the version table is of its size
 pub record Tabled (n : ℕ) (table : List VersionRecord) : Type 0 where
@@ -87,8 +90,8 @@ pub record Tabled (n : ℕ) (table : List VersionRecord) : Type 0 where
 pub record Holds (d : Desk) (s : Stores) (h : List Told) : Type 0 where
   pub table : Tabled (d .frame .count) (d .versions)
   pub used : d .frame .used ≡ length (logOf h)
-  pub works : worksOut d (energiesOf h) (logOf h) ≡ workedOut h
-  pub kept : Kept (worksOut d (energiesOf h) (logOf h)) s
+  pub works : worksOut d (workedOut h) ≡ workedOut h
+  pub kept : Kept (worksOut d (workedOut h)) s
 
 -- ---- what follows from it
 
@@ -96,7 +99,7 @@ pub record Holds (d : Desk) (s : Stores) (h : List Told) : Type 0 where
 pub count-is : (d : Desk) → Tabled (d .frame .count) (d .versions) → length (versionsIn d) ≡ d .frame .count
 count-is d T = length-take-le (d .frame .count) (d .versions) (omega (arith, T .size, T .count))
 
--- an opening within its limits: it has quarter hours, so it is open, and the book's length is 162 × Q
+-- an opening within its limits: it has quarter hours, so it is open; the book's length is 162 × Q, and that of the schedules 64 × Q
 pub quarters-in : (o : Opening) → openingOk o ≡ true → 1 ≤ o .quarters
 unfolding openingOk
 quarters-in o h = within-low 1 2980 (o .quarters) (and-left (quartersOk (o .quarters)) _ h)
@@ -109,6 +112,13 @@ unfolding openingOk
 book-is o h =
     eqb-true (o .book) (162 * o .quarters)
     (and-left (eqb (o .book) (162 * o .quarters)) _ (and-right (deadlinesOk (o .first .0) (o .clearing .0) (o .correction .0)) _ (and-right (quartersOk (o .quarters)) _ h)))
+
+pub schedules-is : (o : Opening) → openingOk o ≡ true → o .schedules ≡ scheduleRows * o .quarters
+unfolding openingOk
+schedules-is o h =
+    eqb-true (o .schedules) (64 * o .quarters)
+    (and-right (eqb (o .log % 4) 0) _
+    (and-right (eqb (o .book) (162 * o .quarters)) _ (and-right (deadlinesOk (o .first .0) (o .clearing .0) (o .correction .0)) _ (and-right (quartersOk (o .quarters)) _ h))))
 
 module _ (d : Desk) (s : Stores) (h : List Told) (H : Holds d s h) where
   -- the desk is open, on both sides, and valid
@@ -153,19 +163,19 @@ module _ (d : Desk) (s : Stores) (h : List Told) (H : Holds d s h) where
 
   -- what is worked out of the list with the call
   abbrev pub then : Told → Worked
-  then t = after t (worksOut d (energiesOf h) (logOf h))
+  then t = after t (worksOut d (workedOut h))
 
   -- the invariant after an accepted call
   pub finish : (t : Told) (d′ : Desk) (s′ : Stores) → Tabled (d′ .frame .count) (d′ .versions) → d′ .frame .used ≡ length (then t .log)
-      → worksOut d′ (then t .energies) (then t .log) ≡ then t → Kept (then t) s′ → Holds d′ s′ (t ∷ h)
+      → worksOut d′ (then t) ≡ then t → Kept (then t) s′ → Holds d′ s′ (t ∷ h)
   unfolding workedOut
   finish t d′ s′ T u e K =
       let same : then t ≡ workedOut (t ∷ h) = ap (after t) (H .works) in
       record {
         table = T;
         used = u ∙ ap (λ (w : Worked). length (w .log)) same;
-        works = ap (λ (w : Worked). worksOut d′ (w .energies) (w .log)) (sym same) ∙ e ∙ same;
-        kept = subst (λ (w : Worked). Kept w s′) (sym e ∙ ap (λ (w : Worked). worksOut d′ (w .energies) (w .log)) same) K;
+        works = ap (worksOut d′) (sym same) ∙ e ∙ same;
+        kept = subst (λ (w : Worked). Kept w s′) (sym e ∙ ap (worksOut d′) same) K;
       }
 
 -- ---- what is to be shown of an accepted call

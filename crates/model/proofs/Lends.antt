@@ -6,7 +6,7 @@ use mathlib.Core.Bool.{Bool, true, false, cond, _&&_, true≢false}
 use mathlib.Core.List.{List, [], _∷_, map}
 use lib.Dec.{eqb}
 use lib.ListN.{length, replicate, length-replicate}
-use Rattle.quantity.specs.Limits.{bookRows}
+use Rattle.quantity.specs.Limits.{bookRows, scheduleRows}
 use Rattle.quantity.specs.Lists.{fold}
 use Rattle.quantity.proofs.Tests.{and-left}
 use Rattle.state.specs.Desk.{isOpen, freshDesk}
@@ -14,14 +14,14 @@ use Rattle.state.specs.Valid.{openingOk, frameOk, validDesk}
 use Rattle.state.specs.declared.Desk.{Desk}
 use Rattle.state.specs.declared.Opening.{Opening}
 use Rattle.model.specs.Agreement.{Running, Own, left, next, Chained, fresh, lend}
-use Rattle.model.specs.Call.{Call, opens, activates, deactivates, submits, notices, assigns, shows, asks, settles, Taken, everyStore, theBook, Stores, Lengths, lengthsOf, Lent, Told, told, telling}
+use Rattle.model.specs.Call.{Call, opens, activates, deactivates, submits, notices, assigns, shows, asks, settles, lodges, reports, Taken, everyStore, allButSchedules, theBook, theSchedules, bookAndSchedules, Stores, Lengths, lengthsOf, Lent, Told, told, telling}
 use Rattle.model.specs.Causes.{takes, orIf, firstOf, openingBy, opensOk, refusal}
 use Rattle.model.specs.Plain.{Worked, openingOf, viewIn, joined, plainNext, workedOut, after}
-use Rattle.model.specs.Step.{withBook, refusalBy, decided, step}
+use Rattle.model.specs.Step.{cleared, refusalBy, decided, step}
 use Rattle.model.specs.declared.Ruling.{Ruling}
 use Rattle.model.specs.declared.Ruling.the-variants.{Fine, Refuse}
 use Rattle.model.proofs.Fresh.{State, early, holding}
-use Rattle.model.proofs.Invariant.{Holds, book-is, plain-open}
+use Rattle.model.proofs.Invariant.{Holds, book-is, schedules-is, plain-open}
 use Rattle.model.proofs.Lending.{left-every}
 use Rattle.model.proofs.Main.{one-step}
 
@@ -30,7 +30,7 @@ abbrev ownLent : Running → Call → Lent
 ownLent r c = record { call = c; stores = r .stores }
 
 lent-own : (o : Opening) (t : Taken) (s : Stores) → Own o t s s
-lent-own o t s = record { values = λ a b e. refl; book = λ a b e. refl; log = λ a b e. refl }
+lent-own o t s = record { values = λ a b e. refl; book = λ a b e. refl; log = λ a b e. refl; schedules = λ a b e. refl }
 
 -- so the premise is not vacuous
 pub lend-chained : (r : Running) (l : List Call) → Chained r (lend r l)
@@ -60,16 +60,24 @@ opening-stays h n (assigns a g d) e = unset-next h (telling n (assigns a g d)) r
 opening-stays h n (shows r g) e = unset-next h (telling n (shows r g)) refl
 opening-stays h n (asks p x) e = unset-next h (telling n (asks p x)) refl
 opening-stays h n (settles r d) e = unset-next h (telling n (settles r d)) refl
+opening-stays h n (lodges g d es) e = unset-next h (telling n (lodges g d es)) refl
+opening-stays h n (reports r g) e = unset-next h (telling n (reports r g)) refl
 
 -- the stores of an opened desk are of their opening lengths
 opening-lengths : Opening → Lengths
-opening-lengths o = record { values = o .values; book = o .book; log = o .log }
+opening-lengths o = record { values = o .values; book = o .book; log = o .log; schedules = o .schedules }
 
 holds-lengths : (d : Desk) (s : Stores) (h : List Told) → Holds d s h → lengthsOf s ≡ opening-lengths (openingOf h)
 unfolding opening-lengths
 holds-lengths d s h H =
     let K = H .kept in
-    (λ i. record { values = K .valuesLong i; book = (K .booked .size ∙ sym (book-is (d .frame .opening) (K .framed .opening))) i; log = K .logLong i })
+    (λ i.
+    record {
+      values = K .valuesLong i;
+      book = (K .booked .size ∙ sym (book-is (d .frame .opening) (K .framed .opening))) i;
+      log = K .logLong i;
+      schedules = (K .scheduled .size ∙ sym (schedules-is (d .frame .opening) (K .framed .opening))) i;
+    })
     ∙ ap (λ (w : Worked). opening-lengths (w .opening)) (H .works)
 
 -- a store that comes back as it was lent
@@ -79,6 +87,7 @@ left-self o t s = λ i.
       values = same (t .values && eqb (length (s .values)) (o .values)) (s .values) i;
       book = same (t .book && eqb (length (s .book)) (o .book)) (s .book) i;
       log = same (t .log && eqb (length (s .log)) (o .log)) (s .log) i;
+      schedules = same (t .schedules && eqb (length (s .schedules)) (o .schedules)) (s .schedules) i;
     }
   where
     same : (t : Bool) (l : List ℕ) → cond t l l ≡ l
@@ -93,18 +102,22 @@ fresh-sized s (opens q f c k gs) = go (opensOk (openingBy q f c k (lengthsOf s))
     go : (t : Bool) → opensOk (openingBy q f c k (lengthsOf s)) gs ≡ t → lengthsOf (next (fresh s) (ownLent (fresh s) (opens q f c k gs)) .stores) ≡ lengthsOf s
     go true e =
         let o = openingBy q f c k (lengthsOf s) in
-        let a = withBook s (replicate (bookRows * q) 0) in
-        let size : length (a .book) ≡ o .book = length-replicate (bookRows * q) 0 ∙ sym (book-is o (and-left (openingOk o) _ e)) in
-        rw e (ap lengthsOf (left-every o s a refl size refl) ∙ ap (λ (m : ℕ). record { values = o .values; book = m; log = o .log }) size)
+        let a = cleared q s in
+        let ok = and-left (openingOk o) _ e in
+        let book : length (a .book) ≡ o .book = length-replicate (bookRows * q) 0 ∙ sym (book-is o ok) in
+        let planned : length (a .schedules) ≡ o .schedules = length-replicate (scheduleRows * q) 0 ∙ sym (schedules-is o ok) in
+        rw e (ap lengthsOf (left-every o s a refl book refl planned) ∙ (λ i. record { values = o .values; book = book i; log = o .log; schedules = planned i }))
     go false e = rw e (ap lengthsOf (left-self (freshDesk .frame .opening) everyStore s))
 fresh-sized s (activates p k a b d) = refl
 fresh-sized s (deactivates p d) = refl
-fresh-sized s (submits p x d es) = ap lengthsOf (left-self (freshDesk .frame .opening) everyStore s)
-fresh-sized s (notices p x y d) = ap lengthsOf (left-self (freshDesk .frame .opening) everyStore s)
+fresh-sized s (submits p x d es) = ap lengthsOf (left-self (freshDesk .frame .opening) allButSchedules s)
+fresh-sized s (notices p x y d) = ap lengthsOf (left-self (freshDesk .frame .opening) allButSchedules s)
 fresh-sized s (assigns a g d) = ap lengthsOf (left-self (freshDesk .frame .opening) theBook s)
 fresh-sized s (shows r g) = ap lengthsOf (left-self (freshDesk .frame .opening) theBook s)
 fresh-sized s (asks p x) = refl
 fresh-sized s (settles r d) = refl
+fresh-sized s (lodges g d es) = ap lengthsOf (left-self (freshDesk .frame .opening) theSchedules s)
+fresh-sized s (reports r g) = ap lengthsOf (left-self (freshDesk .frame .opening) bookAndSchedules s)
 
 -- and after any call, from a fresh desk on
 sized : (r : Running) (h : List Told) (c : Call) → State r h → lengthsOf (next r (ownLent r c) .stores) ≡ lengthsOf (r .stores)

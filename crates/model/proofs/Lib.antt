@@ -8,6 +8,7 @@ pub mod ChangeLaws
 pub mod Changing
 pub mod Corollaries
 pub mod Demands
+pub mod Deviations
 pub mod Ends
 pub mod Figures
 pub mod Fresh
@@ -26,6 +27,7 @@ pub mod Restating
 pub mod Rules
 pub mod Sample
 pub mod SampleRunning
+pub mod Schedules
 pub mod Selections
 pub mod SeriesTable
 pub mod Settled

@@ -1,11 +1,11 @@
--- Laws of lists: one element more, tests of each element, the first ones changed, tables, zeros. Assumes nothing.
+-- Laws of lists: one element more, tests of each element, the first ones changed, tables. Assumes nothing.
 use Prim.Native.Nat.{ℕ, zero, suc, _≤_, _<_}
 use mathlib.Core.Path.{_≡_, refl, sym, ap, _∙_}
 use mathlib.Core.Bool.{Bool, true}
 use mathlib.Core.List.{List, [], _∷_, _++_, map}
 use native.Mathlib.Omega.{arith}
 use native.Mathlib.Decide.{ℕ-discrete}
-use lib.ListN.{length, getD, take, drop, replicate, length-append, length-map, length-drop, List·getD-append}
+use lib.ListN.{length, getD, take, drop, length-append, length-map, length-drop, List·getD-append}
 use lib.Seq.{getD-at, length-take-le}
 use Rattle.quantity.specs.Lists.{all}
 use Rattle.quantity.proofs.Lists.{all-append, all-mono}
@@ -55,8 +55,3 @@ module _ {A : Type 0} where
       go (no ne) ih =
           let k : i < n = omega arith in
           List·getD-append (tab n f) (f n ∷ []) d i (omega (arith, length-tab n f)) ∙ ih k
-
-pub zeros-at : (n i : ℕ) → _≡_ {A = ℕ} (getD (replicate n 0) i 0) 0
-zeros-at zero i = refl
-zeros-at (suc n) zero = refl
-zeros-at (suc n) (suc i) = zeros-at n i

@@ -2,7 +2,7 @@
 use mathlib.Core.Path.{_≡_, refl}
 use mathlib.Core.List.{List, [], _∷_, map}
 use Rattle.model.specs.Agreement.{Running, Own, next, Chained, replies, end, fresh, Agree, Agreement}
-use Rattle.model.specs.Call.{Call, opens, activates, deactivates, submits, notices, assigns, shows, asks, settles, Stores, lengthsOf, Lent, Told, told, Reply}
+use Rattle.model.specs.Call.{Call, opens, activates, deactivates, submits, notices, assigns, shows, asks, settles, lodges, reports, Stores, lengthsOf, Lent, Told, told, Reply}
 use Rattle.model.specs.Causes.{takes, rules, refusal}
 use Rattle.model.specs.Laws.{Passed}
 use Rattle.model.specs.Plain.{viewIn, answered, joined, plainReply, plainNext, plainReplies, plainEnd}
@@ -11,6 +11,7 @@ use Rattle.model.specs.View.{viewOf}
 use Rattle.model.specs.declared.Ruling.{Ruling}
 use Rattle.model.specs.declared.Ruling.the-variants.{Fine, Refuse}
 use Rattle.model.proofs.Assign.{assign-granted}
+use Rattle.model.proofs.Deviations.{lodge-granted, report-granted}
 use Rattle.model.proofs.Ends.{holds-agree}
 use Rattle.model.proofs.Fresh.{State, early, holding, open-granted, fresh-step, fresh-agree}
 use Rattle.model.proofs.Invariant.{Holds, Done, Granted, same-refusal, holds-open, holds-view}
@@ -34,6 +35,8 @@ every (assigns a g d) = assign-granted a g d
 every (shows r g) = show-granted r g
 every (asks p x) = status-granted p x
 every (settles r d) = settle-granted r d
+every (lodges g d es) = lodge-granted g d es
+every (reports r g) = report-granted r g
 
 -- what the plain desk does not refuse has passed every rule
 pub fine : (d : Desk) (s : Stores) (h : List Told) (l : Lent) → Holds d s h → refusal (viewIn h) (told l) ≡ Fine → Passed (rules (viewOf d) (lengthsOf (l .stores)) (l .call))

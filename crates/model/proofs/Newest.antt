@@ -27,7 +27,7 @@ use Rattle.state.specs.declared.VersionRow.{VersionRow}
 use Rattle.state.proofs.Kept.{notice-negative, notice-other, settle-same}
 use Rattle.state.proofs.Picks.{best-highest, held-right, own-highest, own-most}
 use Rattle.model.specs.Agreement.{Running, Chained, next, end, fresh}
-use Rattle.model.specs.Call.{Call, opens, activates, deactivates, submits, notices, assigns, shows, asks, settles, Stores, Lengths, Lent, Told, told, telling, Reply}
+use Rattle.model.specs.Call.{Call, opens, activates, deactivates, submits, notices, assigns, shows, asks, settles, lodges, reports, Stores, Lengths, Lent, Told, told, telling, Reply}
 use Rattle.model.specs.Causes.{rules, noticeOk, refusal}
 use Rattle.model.specs.Laws.{Passed, Rising, OwnAbove, TakenUp, NoticeCounts}
 use Rattle.model.specs.Log.{logRow, due, addRow, logNumbers}
@@ -258,6 +258,8 @@ module _ (h : List Told) (P : Plain h) (S : Ordered h) (n : Lengths) where
   ordered-next (assigns a g d) Q = record { rising = S .rising; late = λ i s e. omega (arith, S .late i s e, day-grows (viewIn h) n (assigns a g d) Q); above = S .above }
   ordered-next (shows r g) Q = record { rising = S .rising; late = S .late; above = S .above }
   ordered-next (asks p x) Q = record { rising = S .rising; late = S .late; above = S .above }
+  ordered-next (lodges g d es) Q = record { rising = S .rising; late = λ i s e. omega (arith, S .late i s e, day-grows (viewIn h) n (lodges g d es) Q); above = S .above }
+  ordered-next (reports r g) Q = record { rising = S .rising; late = S .late; above = S .above }
   ordered-next (settles r d) Q =
       let same : (run i : ℕ) → SameVersion (own run i (settledBy r vs)) (own run i vs) = λ run i. settle-same r vs run i in
       record {

@@ -23,8 +23,8 @@ use Rattle.model.specs.Call.{notices, Stores, lengthsOf, Told}
 use Rattle.model.specs.Causes.{rules, noticeOk}
 use Rattle.model.specs.Laws.{Passed}
 use Rattle.model.specs.Log.{due, addRow, usedAfter}
-use Rattle.model.specs.Plain.{worked, after, energiesOf, logOf}
-use Rattle.model.specs.Step.{followed, followedDesk}
+use Rattle.model.specs.Plain.{worked, after, energiesOf, logOf, schedulesOf}
+use Rattle.model.specs.Step.{followed, followedDesk, withSchedules}
 use Rattle.model.specs.View.{viewOf}
 use Rattle.model.proofs.Changing.{changed-kept, left-holds, on-own}
 use Rattle.model.proofs.Invariant.{Holds, Done, Granted, finish}
@@ -39,14 +39,14 @@ confirm-length c y e l Absent = refl
 confirm-length c y e l (Has i v) =
     by-test (λ (m : List VersionRecord). length m ≡ length l) (eqb y 1 && isCheck (v .status)) _ l (λ _. length-set l i (restatus (confirmedStatus c e) v)) (λ _. refl)
 
-module _ (p x y e : ℕ) (d : Desk) (s : Stores) (h : List Told) (H : Holds d s h) (P : Passed (rules (viewOf d) (lengthsOf s) (notices p x y e))) where
+module _ (p x y e : ℕ) (d : Desk) (s : Stores) (h : List Told) (H : Holds d s h) (st : Stores) (P : Passed (rules (viewOf d) (lengthsOf st) (notices p x y e))) where
   abbrev turned : List VersionRecord
   turned = noticed (d .frame .opening .clearing .0) p x y e (versionsIn d)
 
   abbrev desk : Desk
   desk = followedDesk d p e turned (noticedDesk d (held p x (versionsIn d)) y e)
 
-  holds : Holds desk (followed d s p e turned (s .values)) (record { call = notices p x y e; lengths = lengthsOf s } ∷ h)
+  holds : Holds desk (followed d s p e turned (s .values)) (record { call = notices p x y e; lengths = lengthsOf st } ∷ h)
   unfolding after fold
   holds =
       let K = H .kept in
@@ -54,22 +54,30 @@ module _ (p x y e : ℕ) (d : Desk) (s : Stores) (h : List Told) (H : Holds d s 
       let c = d .frame .opening .clearing .0 in
       let found = held p x (versionsIn d) in
       let row = due (versionsIn d) turned p e in
-      let fields = not-false (noticeOk p x y e) (past 3 (rules (viewOf d) (lengthsOf s) (notices p x y e)) P) in
+      let fields = not-false (noticeOk p x y e) (past 3 (rules (viewOf d) (lengthsOf st) (notices p x y e)) P) in
       let inP = and-left (pointOk p) _ fields in
       let day = and-right (leb y 1) _ (and-right (versionOk x) _ (and-right (pointOk p) _ fields)) in
       let same = noticed-restated c p x y e (versionsIn d) in
-      finish d s h H (record { call = notices p x y e; lengths = lengthsOf s }) desk (followed d s p e turned (s .values))
+      finish d s h H (record { call = notices p x y e; lengths = lengthsOf st }) desk (followed d s p e turned (s .values))
       (record { size = confirm-length c y e (d .versions) found ∙ T .size; count = T .count })
       (ap (usedAfter row) (H .used) ∙ used-rows row (logOf h))
-      (ap (λ (l : List VersionRecord). worked (d .frame .opening) e (d .points) (d .frame .groups) l (energiesOf h) (addRow row (logOf h)) (d .frame .settled))
+      (ap (λ (l : List VersionRecord). worked (d .frame .opening) e (d .points) (d .frame .groups) l (energiesOf h) (addRow row (logOf h)) (d .frame .settled) (schedulesOf h))
       (noticed-versions d p x y e (omega (arith, T .size, T .count))))
       (changed-kept d s h H p e (within-low 1 points p inP) (within-high 1 points p inP) day turned (s .values) (energiesOf h)
       (versioned-restated (versionsIn d) turned same (d .frame .opening) (d .points) (K .versioned))
       (stored-restated (versionsIn d) turned same (d .frame .opening .quarters) (s .values) (energiesOf h) (K .stored))
-      (K .valuesLong) (omega (arith, restated-length (versionsIn d) turned same)) (λ i _. same-row (versionsIn d) turned same i) (λ r i ne. notice-other r i c p x y e (versionsIn d) (λ z. ne (sym z))) (K .booked) (past 17 (rules (viewOf d) (lengthsOf s) (notices p x y e)) P))
-
-  done : Done d s h (notices p x y e) s
-  done = record { reply = refl; holds = left-holds desk s (followed d s p e turned (s .values)) (record { call = notices p x y e; lengths = lengthsOf s } ∷ h) holds }
+      (K .valuesLong) (omega (arith, restated-length (versionsIn d) turned same)) (λ i _. same-row (versionsIn d) turned same i) (λ r i ne. notice-other r i c p x y e (versionsIn d) (λ z. ne (sym z))) (K .booked) (past 17 (rules (viewOf d) (lengthsOf st) (notices p x y e)) P))
 
 pub notice-granted : (p x y e : ℕ) → Granted (notices p x y e)
-notice-granted p x y e d s h st H o P = on-own (notices p x y e) d s h st H o (P .1 .0) (done p x y e d s h H) P
+notice-granted p x y e d s h st H o P = on-own (notices p x y e) d s h st H o (P .1 .0) done P
+  where
+    done : (l : List ℕ) → Passed (rules (viewOf d) (lengthsOf (withSchedules s l)) (notices p x y e)) → Done d s h (notices p x y e) (withSchedules s l)
+    done l P =
+        let lent = withSchedules s l in
+        let ws = turned p x y e d s h H lent P in
+        record {
+          reply = refl;
+          holds =
+              left-holds (desk p x y e d s h H lent P) s (followed d lent p e ws (s .values)) (record { call = notices p x y e; lengths = lengthsOf lent } ∷ h)
+              (holds p x y e d s h H lent P);
+        }

@@ -23,7 +23,7 @@ use Rattle.state.specs.declared.Selection.{Selection}
 use Rattle.state.specs.declared.Selection.the-variants.{None}
 use Rattle.state.specs.declared.VersionRecord.{VersionRecord}
 use Rattle.model.specs.Call.{activates, deactivates, Stores, lengthsOf, Told}
-use Rattle.model.specs.Plain.{after, energiesOf, logOf}
+use Rattle.model.specs.Plain.{after, workedOut, energiesOf}
 use Rattle.model.proofs.Books.{booked-same}
 use Rattle.model.proofs.Figures.{figure-point}
 use Rattle.model.proofs.Invariant.{Holds, Kept, Granted, tenanted, worksOut, finish}
@@ -84,7 +84,7 @@ module _ (ps : List PointRecord) (p : ℕ) (r : PointRecord) where
 -- the invariant with another record at a point that has no versions
 module _ (d : Desk) (s : Stores) (h : List Told) (H : Holds d s h) (p e : ℕ) (r : PointRecord) (good : pointRecordOk r ≡ true) (day : dayOk e ≡ true)
     (none : empty p (versionsIn d)) (homes : all (tenanted (withPoint (d .points) p r)) (versionsIn d) ≡ true) where
-  put-kept : Kept (worksOut (deskWith (deskWith d (thePoints (withPoint (d .points) p r))) (theDay e)) (energiesOf h) (logOf h)) s
+  put-kept : Kept (worksOut (deskWith (deskWith d (thePoints (withPoint (d .points) p r))) (theDay e)) (workedOut h)) s
   put-kept =
       let K = H .kept in
       record {
@@ -97,6 +97,7 @@ module _ (d : Desk) (s : Stores) (h : List Told) (H : Holds d s h) (p e : ℕ) (
         valuesLong = K .valuesLong;
         logLong = K .logLong;
         logged = K .logged;
+        scheduled = K .scheduled;
       }
 
 pub activate-granted : (p k a b e : ℕ) → Granted (activates p k a b e)

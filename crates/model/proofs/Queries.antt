@@ -73,7 +73,7 @@ show-granted r g d s h st H o P =
     }
   where
     shown : List ℤ → Reply
-    shown l = record { answer = Accepted; row = l }
+    shown l = record { answer = Accepted; row = l; surplus = pos 0; shortfall = pos 0 }
 
 pub status-granted : (p x : ℕ) → Granted (asks p x)
 unfolding after fold

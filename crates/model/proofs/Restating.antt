@@ -19,7 +19,7 @@ use Rattle.state.specs.declared.PointRecord.{PointRecord}
 use Rattle.state.specs.declared.VersionRecord.{VersionRecord}
 use Rattle.state.proofs.Kept.{settle-same, settled-versions}
 use Rattle.model.specs.Call.{settles, lengthsOf}
-use Rattle.model.specs.Plain.{worked, after, energiesOf, logOf}
+use Rattle.model.specs.Plain.{worked, after, energiesOf, logOf, schedulesOf}
 use Rattle.model.proofs.Amends.{Stored}
 use Rattle.model.proofs.Books.{Reads, booked-same}
 use Rattle.model.proofs.Figures.{figure-versions}
@@ -68,7 +68,7 @@ settle-granted r e d s h st H o P =
           finish d s h H (record { call = settles r e; lengths = lengthsOf st }) d′ s
           (record { size = length-mapFirst (settle r vs) (d .versions) (d .frame .count) long ∙ T .size; count = T .count })
           (H .used)
-          (ap (λ (l : List VersionRecord). worked (d .frame .opening) e (d .points) (d .frame .groups) l (energiesOf h) (logOf h) (flagged r (d .frame .settled))) same)
+          (ap (λ (l : List VersionRecord). worked (d .frame .opening) e (d .points) (d .frame .groups) l (energiesOf h) (logOf h) (flagged r (d .frame .settled)) (schedulesOf h)) same)
           (record {
             framed = record { opening = K .framed .opening; day = and-right (runOk r) _ fields; used = K .framed .used };
             grouped = K .grouped;
@@ -79,5 +79,6 @@ settle-granted r e d s h st H o P =
             valuesLong = K .valuesLong;
             logLong = K .logLong;
             logged = K .logged;
+            scheduled = K .scheduled;
           });
     }

@@ -17,7 +17,7 @@ use Rattle.state.specs.declared.Opening.{Opening}
 use Rattle.state.specs.declared.Runs.{Runs}
 use Rattle.state.proofs.Kept.{settle-apart}
 use Rattle.model.specs.Agreement.{Running, Chained, end, fresh}
-use Rattle.model.specs.Call.{Call, opens, activates, deactivates, submits, notices, assigns, shows, asks, settles, Stores, Lengths, Lent, Told, told, telling}
+use Rattle.model.specs.Call.{Call, opens, activates, deactivates, submits, notices, assigns, shows, asks, settles, lodges, reports, Stores, Lengths, Lent, Told, told, telling}
 use Rattle.model.specs.Causes.{terms, rules, orIf, firstOf, openingBy, opensOk, refusal}
 use Rattle.model.specs.Laws.{Passed}
 use Rattle.model.specs.Plain.{Worked, openingOf, dayOf, versionsOf, settledOf, viewIn, joined, plainNext, plainEnd, workedOut, after}
@@ -44,6 +44,8 @@ day-grows v n (assigns a g d) P = ltb-false d (v .frame .day .0) (P .1 .1 .1 .0)
 day-grows v n (shows r g) P = omega arith
 day-grows v n (asks p x) P = omega arith
 day-grows v n (settles r d) P = ltb-false d (v .frame .day .0) (P .1 .1 .0)
+day-grows v n (lodges g d es) P = ltb-false d (v .frame .day .0) (P .1 .1 .1 .0)
+day-grows v n (reports r g) P = omega arith
 
 -- ---- the accepted calls of an opened plain desk
 
@@ -79,6 +81,8 @@ module _ (h : List Told) (O : Opened h) (n : Lengths) where
   past-after (assigns a g d) P e = omega (arith, O .past e, day-grows (viewIn h) n (assigns a g d) P)
   past-after (shows r g) P e = O .past e
   past-after (asks p x) P e = O .past e
+  past-after (lodges g d es) P e = omega (arith, O .past e, day-grows (viewIn h) n (lodges g d es) P)
+  past-after (reports r g) P e = O .past e
   past-after (settles r d) P e = go (eqb r 1) refl
     where
       go : (t : Bool) → eqb r 1 ≡ t → openingOf h .clearing .0 < d
@@ -97,6 +101,8 @@ module _ (h : List Told) (O : Opened h) (n : Lengths) where
   settled-after (shows r g) e = e
   settled-after (asks p x) e = e
   settled-after (settles r d) e = rw (e, or-true (eqb r 1))
+  settled-after (lodges g d es) e = e
+  settled-after (reports r g) e = e
 
   -- and its selection stays
   pub own-after : (c : Call) → Passed (rules (viewIn h) n c) → settledOf h .first ≡ true → (i : ℕ) → own 1 i (after (telling n c) (workedOut h) .versions) ≡ own 1 i (versionsOf h)
@@ -114,6 +120,8 @@ module _ (h : List Told) (O : Opened h) (n : Lengths) where
   own-after (shows r g) P e i = refl
   own-after (asks p x) P e i = refl
   own-after (settles r d) P e i = settle-apart r (versionsOf h) 1 i (λ z. false≢true (sym (rw (sym z) at (P .1 .1 .1 .1 .0)) ∙ e))
+  own-after (lodges g d es) P e i = refl
+  own-after (reports r g) P e i = refl
 
 -- what is to be shown of one call
 pub record Onward (h g : List Told) : Type 0 where
@@ -161,6 +169,8 @@ empty-on n (assigns a g d) = record { plain = empty refl; settled = λ z. z; sta
 empty-on n (shows r g) = record { plain = empty refl; settled = λ z. z; stays = λ z i. refl }
 empty-on n (asks p x) = record { plain = empty refl; settled = λ z. z; stays = λ z i. refl }
 empty-on n (settles r d) = record { plain = empty refl; settled = λ z. z; stays = λ z i. refl }
+empty-on n (lodges g d es) = record { plain = empty refl; settled = λ z. z; stays = λ z i. refl }
+empty-on n (reports r g) = record { plain = empty refl; settled = λ z. z; stays = λ z i. refl }
 
 pub onward : (h : List Told) (t : Told) → Plain h → Onward h (plainNext h t)
 onward h t (empty e) = rw e (empty-on (t .lengths) (t .call))

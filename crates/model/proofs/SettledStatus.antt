@@ -31,7 +31,7 @@ use Rattle.state.proofs.Kept.{settle-apart}
 use Rattle.state.proofs.Picks.{own-tells, first-status, second-status}
 use Rattle.state.proofs.Settled.{settles-first, settles-second}
 use Rattle.model.specs.Agreement.{Chained, end, fresh}
-use Rattle.model.specs.Call.{Call, opens, activates, deactivates, submits, notices, assigns, shows, asks, settles, Stores, Lengths, Lent, Told, told, telling}
+use Rattle.model.specs.Call.{Call, opens, activates, deactivates, submits, notices, assigns, shows, asks, settles, lodges, reports, Stores, Lengths, Lent, Told, told, telling}
 use Rattle.model.specs.Causes.{rules}
 use Rattle.model.specs.Laws.{Passed, TellsSettled}
 use Rattle.model.specs.Plain.{openingOf, dayOf, versionsOf, settledOf, viewIn, plainEnd, workedOut, after}
@@ -145,6 +145,9 @@ module _ (h : List Told) (P : Plain h) (S : Shown h) (n : Lengths) where
       record { past = λ z. omega (arith, S .past z, day-grows (viewIn h) n (assigns a g d) Q); order = S .order; first = S .first; second = S .second; firstOpen = S .firstOpen; secondOpen = S .secondOpen }
   shown-next (shows r g) Q = record { past = S .past; order = S .order; first = S .first; second = S .second; firstOpen = S .firstOpen; secondOpen = S .secondOpen }
   shown-next (asks p x) Q = record { past = S .past; order = S .order; first = S .first; second = S .second; firstOpen = S .firstOpen; secondOpen = S .secondOpen }
+  shown-next (lodges g d es) Q =
+      record { past = λ z. omega (arith, S .past z, day-grows (viewIn h) n (lodges g d es) Q); order = S .order; first = S .first; second = S .second; firstOpen = S .firstOpen; secondOpen = S .secondOpen }
+  shown-next (reports r g) Q = record { past = S .past; order = S .order; first = S .first; second = S .second; firstOpen = S .firstOpen; secondOpen = S .secondOpen }
   shown-next (settles r d) Q = record { past = late; order = both; first = ones; second = twos; firstOpen = not-ones; secondOpen = not-twos }
     where
       late : (eqb r 2 || settledOf h .second) ≡ true → openingOf h .correction .0 < d

@@ -28,8 +28,8 @@ use Rattle.state.specs.declared.Selection.the-variants.{None, Selected}
 use Rattle.state.specs.declared.VersionRow.{VersionRow}
 use Rattle.state.proofs.Limits.{means-series, means-valid}
 use Rattle.state.proofs.Picks.{best-highest}
-use Rattle.model.specs.Call.{Call, opens, activates, deactivates, submits, notices, assigns, shows, asks, settles, Stores, Lengths, lengthsOf, Lent, Told, told, causeNumber}
-use Rattle.model.specs.Causes.{Rule, terms, takes, rules, otherLengths, firstOf, opensOk, openingBy, submitOk, noticeOk, logFull, isAbsent, isBelow, notCheck, refusal}
+use Rattle.model.specs.Call.{Call, opens, activates, deactivates, submits, notices, assigns, shows, asks, settles, lodges, reports, Stores, Lengths, lengthsOf, Lent, Told, told, causeNumber}
+use Rattle.model.specs.Causes.{Rule, terms, takes, rules, otherLengths, firstOf, opensOk, openingBy, submitOk, noticeOk, lodgeOk, logFull, isAbsent, isBelow, notCheck, refusal}
 use Rattle.model.specs.Laws.{Passed, Decides, here, below}
 use Rattle.model.specs.Log.{due}
 use Rattle.model.specs.Plain.{versionsOf, viewIn, granted, answered, plainReply}
@@ -45,7 +45,7 @@ use Rattle.model.specs.declared.Ruling.the-variants.{Fine, Refuse}
 use Rattle.model.proofs.CauseLaws.{status-found, step-accepts, step-refused, step-refuses}
 use Rattle.model.proofs.Rules.{not-refused, passed, passed-fine, past, first-decides, decides-first}
 use Rattle.model.proofs.TableDue.{check-held, means-submit-due, means-notice-due}
-use Rattle.model.proofs.TableWords.{means-unopened, means-allowed, means-stores, means-book, means-submit, means-active, means-early, means-same-series, means-has, means-present, means-absent, means-status, means-below, means-deadline, means-flag, means-second}
+use Rattle.model.proofs.TableWords.{means-unopened, means-allowed, means-stores, means-book, means-schedules, means-both, means-submit, means-lodge, means-active, means-early, means-same-series, means-has, means-present, means-absent, means-status, means-below, means-deadline, means-flag, means-second}
 
 -- ---- tests and a table that say the same
 
@@ -187,6 +187,18 @@ module _ (v : View) (n : Lengths) where
       said (means-not (isActive (pointAt (v .points) p)) (means-active (v .points) p)) (λ _.
       said (means-absent (v .versions) p x) (λ _.
       tt))))
+  says (lodges g d es) =
+      said unopened (λ _.
+      said (means-schedules n (v .frame .opening)) (λ _.
+      said (means-not (lodgeOk g d (v .frame .opening .quarters) es) (means-lodge g d (v .frame .opening .quarters) es)) (λ _.
+      said (means-lt d (v .frame .day .0)) (λ _.
+      said (means-lt (v .frame .opening .clearing .0) d) (λ _.
+      tt)))))
+  says (reports r g) =
+      said unopened (λ _.
+      said (means-both n (v .frame .opening)) (λ _.
+      said (means-not (runOk r && groupOk g) (means-and (runOk r) _ (means-run r) (λ _. means-group g))) (λ _.
+      tt)))
   says (settles r d) =
       said unopened (λ _.
       said (means-not (runOk r && dayOk d) (means-and (runOk r) _ (means-run r) (λ _. means-day d))) (λ fields.
@@ -211,6 +223,8 @@ in-order v n (assigns a g d) = refl
 in-order v n (shows r g) = refl
 in-order v n (asks p x) = refl
 in-order v n (settles r d) = refl
+in-order v n (lodges g d es) = refl
+in-order v n (reports r g) = refl
 
 -- the stores that a call takes are those whose lengths are asked for: 2, of all but open
 pub taken-asked : (v : View) (n : Lengths) (c : Call) → terms c .opening ≡ false
@@ -225,6 +239,8 @@ taken-asked v n (assigns a g d) e = or-false _
 taken-asked v n (shows r g) e = or-false _
 taken-asked v n (asks p x) e = refl
 taken-asked v n (settles r d) e = refl
+taken-asked v n (lodges g d es) e = or-false _
+taken-asked v n (reports r g) e = or-false _
 
 -- the answer by a table of tests that says what the paper's says
 by-table : (l : List Rule) (t : Table) (a : Answer) → Says l t → ((x : Cause) → a ≡ Refused x → Decides x l) → ((x : Cause) → Decides x l → a ≡ Refused x)
@@ -270,6 +286,8 @@ module _ (d : Desk) (s : Stores) where
   step-by-table (shows r g) = others (shows r g) (said limits (λ _. says (viewOf d) (lengthsOf s) (shows r g)))
   step-by-table (asks p x) = others (asks p x) (said limits (λ _. says (viewOf d) (lengthsOf s) (asks p x)))
   step-by-table (settles r t) = others (settles r t) (said limits (λ _. says (viewOf d) (lengthsOf s) (settles r t)))
+  step-by-table (lodges g t es) = others (lodges g t es) (said limits (λ _. says (viewOf d) (lengthsOf s) (lodges g t es)))
+  step-by-table (reports r g) = others (reports r g) (said limits (λ _. says (viewOf d) (lengthsOf s) (reports r g)))
 
 -- what the plain desk grants is no refusal
 granted-fine : {A : Type 0} (h : List Told) (n : Lengths) (c : Call) (x : Cause) → Passed (rules (viewIn h) n c) → granted h c .answer ≡ Refused x → A
@@ -283,6 +301,8 @@ granted-fine h n (assigns a g d) x P e = not-refused x e
 granted-fine h n (shows r g) x P e = not-refused x e
 granted-fine h n (asks p y) x P e = status-found (held p y (versionsOf h)) x (past 24 (rules (viewIn h) n (asks p y)) P) e
 granted-fine h n (settles r d) x P e = not-refused x e
+granted-fine h n (lodges g d es) x P e = not-refused x e
+granted-fine h n (reports r g) x P e = not-refused x e
 
 -- the plain desk, after any calls
 pub plain-by-table : (h : List Told) (t : Told) → ByTable (table (viewIn h) (t .lengths) (t .call)) (plainReply h t .answer)

@@ -1,7 +1,7 @@
 -- Each test of the table of causes, and what it says in the paper's words. Assumes nothing.
 use Prim.Native.Nat.{ℕ, zero, suc, _+_, _≤_, _<_}
 use mathlib.Core.Path.{_≡_, refl, sym, ap, _∙_}
-use mathlib.Core.Bool.{Bool, true, false, cond, not, _&&_, true≢false, false≢true}
+use mathlib.Core.Bool.{Bool, true, false, cond, not, _&&_, _||_, true≢false, false≢true}
 use mathlib.Core.Logic.{_⊎_, inl, inr}
 use mathlib.Core.List.{List}
 use native.Mathlib.Omega.{arith}
@@ -10,8 +10,8 @@ use lib.Dec.{leb, ltb, eqb}
 use lib.IntN.{ℤ, pos, natAbs}
 use lib.ListN.{length, getD}
 use Rattle.quantity.specs.Limits.{dayOk, versionOk, pointOk, groupOk, energyOk}
-use Rattle.quantity.specs.Lists.{any}
-use Rattle.quantity.specs.Meaning.{Means, Between, Among}
+use Rattle.quantity.specs.Lists.{all, any}
+use Rattle.quantity.specs.Meaning.{Means, Between, Each, Among}
 use Rattle.quantity.proofs.Meanings.{means-le, means-eq, means-not, means-so, means-and, means-or, means-never, means-test, means-all, means-any}
 use Rattle.quantity.proofs.Ranges.{means-day, means-version, means-point, means-group, means-energy}
 use Rattle.state.specs.Desk.{isOpen, flagOf}
@@ -33,9 +33,9 @@ use Rattle.state.specs.declared.VersionRecord.{VersionRecord}
 use Rattle.state.specs.declared.VersionRow.{VersionRow}
 use Rattle.state.proofs.Limits.{means-opening}
 use Rattle.state.proofs.Picks.{best-highest, held-right}
-use Rattle.model.specs.Call.{Lengths, everyStore, theBook}
-use Rattle.model.specs.Causes.{openingBy, opensOk, otherLengths, submitOk, isAbsent, isBelow, notCheck, deadline}
-use Rattle.model.specs.Table.{ActiveAt, SameSeries, FoundAt, Present, BelowHighest, Allowed, SubmitIn}
+use Rattle.model.specs.Call.{Lengths, allButSchedules, theBook, theSchedules, bookAndSchedules}
+use Rattle.model.specs.Causes.{openingBy, opensOk, otherLengths, submitOk, lodgeOk, isAbsent, isBelow, notCheck, deadline}
+use Rattle.model.specs.Table.{ActiveAt, SameSeries, FoundAt, Present, BelowHighest, Allowed, SubmitIn, LodgeIn}
 
 -- ---- the opening
 
@@ -56,30 +56,48 @@ means-allowed q f c k gs n =
 -- ---- the stores
 
 module _ (n : Lengths) (o : Opening) where
-  pub means-stores : Means (otherLengths everyStore n o) ((n .values ≡ o .values → ⊥) ⊎ ((n .book ≡ o .book → ⊥) ⊎ (n .log ≡ o .log → ⊥)))
+  pub means-stores : Means (otherLengths allButSchedules n o) ((n .values ≡ o .values → ⊥) ⊎ ((n .book ≡ o .book → ⊥) ⊎ (n .log ≡ o .log → ⊥)))
   unfolding otherLengths
   means-stores =
       means-or (not (eqb (n .values) (o .values))) _ (means-not _ (means-eq (n .values) (o .values)))
       (means-or (not (eqb (n .book) (o .book))) (not (eqb (n .log) (o .log))) (means-not _ (means-eq (n .book) (o .book))) (means-not _ (means-eq (n .log) (o .log))))
 
-  pub means-book : Means (otherLengths theBook n o) (n .book ≡ o .book → ⊥)
-  unfolding otherLengths
-  means-book =
-      means-so (means-or (not (eqb (n .book) (o .book))) false (means-not _ (means-eq (n .book) (o .book))) (means-never {P = ⊥} (λ z. z))) only inl
+  -- one length, and nothing else
+  alone : (a b : ℕ) → Means (not (eqb a b) || false) (a ≡ b → ⊥)
+  alone a b = means-so (means-or (not (eqb a b)) false (means-not _ (means-eq a b)) (means-never {P = ⊥} (λ z. z))) only inl
     where
       only : {P : Type 0} → P ⊎ ⊥ → P
       only (inl p) = p
       only (inr z) = absurd z
 
+  pub means-book : Means (otherLengths theBook n o) (n .book ≡ o .book → ⊥)
+  unfolding otherLengths
+  means-book = alone (n .book) (o .book)
+
+  pub means-schedules : Means (otherLengths theSchedules n o) (n .schedules ≡ o .schedules → ⊥)
+  unfolding otherLengths
+  means-schedules = alone (n .schedules) (o .schedules)
+
+  pub means-both : Means (otherLengths bookAndSchedules n o) ((n .schedules ≡ o .schedules → ⊥) ⊎ (n .book ≡ o .book → ⊥))
+  unfolding otherLengths
+  means-both = means-or (not (eqb (n .schedules) (o .schedules))) _ (means-not _ (means-eq (n .schedules) (o .schedules))) (alone (n .book) (o .book))
+
 -- ---- fields
+
+-- "Q energies", "each from -10^12 to 10^12"
+means-series : (q : ℕ) (es : List ℤ) → Means (eqb (length es) q && all energyOk es) ((length es ≡ q) × Each (pos 0) (λ (e : ℤ). natAbs e ≤ 1000000000000) es)
+means-series q es =
+    means-and (eqb (length es) q) _ (means-eq (length es) q) (λ _. means-all energyOk (λ (e : ℤ). natAbs e ≤ 1000000000000) (pos 0) means-energy es)
 
 pub means-submit : (p x d q : ℕ) (es : List ℤ) → Means (submitOk p x d q es) (SubmitIn p x d q es)
 means-submit p x d q es =
     means-and (pointOk p) _ (means-point p)
     (λ _. means-and (versionOk x) _ (means-version x)
     (λ _. means-and (dayOk d) _ (means-day d)
-    (λ _. means-and (eqb (length es) q) _ (means-eq (length es) q)
-    (λ _. means-all energyOk (λ (e : ℤ). natAbs e ≤ 1000000000000) (pos 0) means-energy es))))
+    (λ _. means-series q es)))
+
+pub means-lodge : (g d q : ℕ) (es : List ℤ) → Means (lodgeOk g d q es) (LodgeIn g d q es)
+means-lodge g d q es = means-and (groupOk g) _ (means-group g) (λ _. means-and (dayOk d) _ (means-day d) (λ _. means-series q es))
 
 -- ---- points
 

@@ -1,4 +1,4 @@
--- The nine calls of document 01 with what is lent to them, and their answers with the paper's numbers.
+-- The nine calls of document 01 and the two of document 02 with what is lent to them, and their answers with the papers' numbers.
 use Prim.Native.Nat.{ℕ}
 use mathlib.Core.Bool.{Bool, true, false}
 use mathlib.Core.List.{List}
@@ -10,23 +10,27 @@ use Rattle.model.specs.declared.Cause.the-variants.{NotOpen, WrongLength
 use Rattle.model.specs.declared.Answer.{Answer}
 use Rattle.model.specs.declared.Answer.the-variants.{Accepted, HasStatus, Refused}
 
--- "Lent stores, lengths fixed at opening: values (any length), book (162 × Q), log (a multiple of 4)."
+-- "Lent stores, lengths fixed at opening: values (any length), book (162 × Q), log (a multiple of 4)."; document 02: "Schedules are lent as a store
+-- of 64 × Q numbers"
 pub record Stores : Type 0 where
   pub values : List ℕ
   pub book : List ℕ
   pub log : List ℕ
+  pub schedules : List ℕ
 
 -- "each call with the same store lengths at both"
 pub record Lengths : Type 0 where
   pub values : ℕ
   pub book : ℕ
   pub log : ℕ
+  pub schedules : ℕ
 
 -- the lengths of the stores
 abbrev pub lengthsOf : Stores → Lengths
-lengthsOf s = record { values = length (s .values); book = length (s .book); log = length (s .log) }
+lengthsOf s = record { values = length (s .values); book = length (s .book); log = length (s .log); schedules = length (s .schedules) }
 
--- "The calls, in building order", each with its fields
+-- "The calls, in building order", each with its fields; document 02: "A schedule of Q energies per group .. is lodged up to day C", "A report of run
+-- and group"
 pub data Call : Type 0 where
   opens : (quarters first clearing correction : ℕ) (groups : List ℕ) → Call
   activates : (point kind area partner day : ℕ) → Call
@@ -37,24 +41,39 @@ pub data Call : Type 0 where
   shows : (run group : ℕ) → Call
   asks : (point version : ℕ) → Call
   settles : (run day : ℕ) → Call
+  lodges : (group day : ℕ) (energies : List ℤ) → Call
+  reports : (run group : ℕ) → Call
 
 -- the stores that a call takes; one that it does not take may be any, and is not looked at
 pub record Taken : Type 0 where
   pub values : Bool
   pub book : Bool
   pub log : Bool
+  pub schedules : Bool
 
--- all three stores
+-- "open takes it too": all four stores
 abbrev pub everyStore : Taken
-everyStore = record { values = true; book = true; log = true }
+everyStore = record { values = true; book = true; log = true; schedules = true }
+
+-- values, book and log
+abbrev pub allButSchedules : Taken
+allButSchedules = record { values = true; book = true; log = true; schedules = false }
 
 -- the book alone
 abbrev pub theBook : Taken
-theBook = record { values = false; book = true; log = false }
+theBook = record { values = false; book = true; log = false; schedules = false }
+
+-- "Lodging takes this store": the schedules alone
+abbrev pub theSchedules : Taken
+theSchedules = record { values = false; book = false; log = false; schedules = true }
+
+-- "a report this and the book"
+abbrev pub bookAndSchedules : Taken
+bookAndSchedules = record { values = false; book = true; log = false; schedules = true }
 
 -- none of them
 abbrev pub noStore : Taken
-noStore = record { values = false; book = false; log = false }
+noStore = record { values = false; book = false; log = false; schedules = false }
 
 -- a call with the stores that are lent to it
 pub record Lent : Type 0 where
@@ -106,7 +125,9 @@ answerNumber Accepted = 0
 answerNumber (HasStatus s) = statusNumber s
 answerNumber (Refused c) = causeNumber c
 
--- an answer with show's row
+-- an answer with show's row and a report's two sums
 pub record Reply : Type 0 where
   pub answer : Answer
   pub row : List ℤ
+  pub surplus : ℤ
+  pub shortfall : ℤ

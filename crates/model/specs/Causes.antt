@@ -18,7 +18,7 @@ use Rattle.state.specs.declared.Held.{Held}
 use Rattle.state.specs.declared.Held.the-variants.{Absent, Has}
 use Rattle.state.specs.declared.Opening.{Opening}
 use Rattle.state.specs.declared.VersionRecord.{VersionRecord}
-use Rattle.model.specs.Call.{Call, opens, activates, deactivates, submits, notices, assigns, shows, asks, settles, Lengths, Taken, everyStore, theBook, noStore, Told}
+use Rattle.model.specs.Call.{Call, opens, activates, deactivates, submits, notices, assigns, shows, asks, settles, lodges, reports, Lengths, Taken, everyStore, allButSchedules, theBook, theSchedules, bookAndSchedules, noStore, Told}
 use Rattle.model.specs.Log.{due}
 use Rattle.model.specs.View.{View}
 use Rattle.model.specs.declared.Asks.{Asks}
@@ -62,6 +62,7 @@ openingBy q f c k n =
       values = n .values;
       book = n .book;
       log = n .log;
+      schedules = n .schedules;
     }
 
 -- "open: Q, deadlines, groups or store lengths not allowed"; "17 delta groups (T, areas 1..16)"
@@ -72,10 +73,11 @@ opensOk o gs = openingOk o && (eqb (length gs) deltas && all groupOk gs)
 abbrev pub otherLength : (taken : Bool) (lent opening : ℕ) → Bool
 otherLength t n m = t && not (eqb n m)
 
--- "values, book or log that the call takes differs from its opening length"
+-- "values, book or log that the call takes differs from its opening length"; document 02: of schedules too, "Store length, .. use 2"
 unfoldable pub otherLengths : Taken → Lengths → Opening → Bool
 otherLengths t n o =
-    otherLength (t .values) (n .values) (o .values) || (otherLength (t .book) (n .book) (o .book) || otherLength (t .log) (n .log) (o .log))
+    otherLength (t .schedules) (n .schedules) (o .schedules)
+    || (otherLength (t .values) (n .values) (o .values) || (otherLength (t .book) (n .book) (o .book) || otherLength (t .log) (n .log) (o .log)))
 
 -- "field outside its range, .. wrong series length, energy too large" of a submission
 abbrev pub submitOk : (point version day quarters : ℕ) → List ℤ → Bool
@@ -84,6 +86,10 @@ submitOk p x d q es = pointOk p && (versionOk x && (dayOk d && (eqb (length es) 
 -- a notice's fields; "verdict (1 positive, 0 negative)"
 abbrev pub noticeOk : (point version verdict day : ℕ) → Bool
 noticeOk p x y d = pointOk p && (versionOk x && (leb y 1 && dayOk d))
+
+-- a lodging's fields: group, day, "Q energies"
+abbrev pub lodgeOk : (group day quarters : ℕ) → List ℤ → Bool
+lodgeOk g d q es = groupOk g && (dayOk d && (eqb (length es) q && all energyOk es))
 
 -- "no such version"
 unfoldable pub isAbsent : Held → Bool
@@ -129,7 +135,8 @@ askingVersions p x =
 pub record Terms : Type 0 where
   -- "(all but open)"
   pub opening : Bool
-  -- "Open, submit and notice take all three stores, assign and show the book, the rest none"
+  -- "Open, submit and notice take all three stores, assign and show the book, the rest none"; document 02: "open takes it too", "Lodging takes this
+  -- store, a report this and the book."
   pub takes : Taken
   -- Q of the book that it is lent: an opening's own, else the desk's
   pub quarters : (desk : ℕ) → ℕ
@@ -189,13 +196,13 @@ terms (deactivates p d) =
 terms (submits p x d es) =
     record {
       opening = false;
-      takes = everyStore;
+      takes = allButSchedules;
       quarters = λ m. m;
       day = λ e. d;
       asks = askingVersions p x;
       rules = λ v n.
           rule (not (isOpen (v .frame .opening))) NotOpen
-          (rule (otherLengths everyStore n (v .frame .opening)) WrongLength
+          (rule (otherLengths allButSchedules n (v .frame .opening)) WrongLength
           (rule (not (submitOk p x d (v .frame .opening .quarters) es)) BadField
           (rule (ltb d (v .frame .day .0)) PastDay
           (rule (ltb (v .frame .opening .correction .0) d) AfterCorrection
@@ -212,13 +219,13 @@ terms (submits p x d es) =
 terms (notices p x y d) =
     record {
       opening = false;
-      takes = everyStore;
+      takes = allButSchedules;
       quarters = λ m. m;
       day = λ e. d;
       asks = askingVersions p x;
       rules = λ v n.
           rule (not (isOpen (v .frame .opening))) NotOpen
-          (rule (otherLengths everyStore n (v .frame .opening)) WrongLength
+          (rule (otherLengths allButSchedules n (v .frame .opening)) WrongLength
           (rule (not (noticeOk p x y d)) BadField
           (rule (ltb d (v .frame .day .0)) PastDay
           (rule (ltb (v .frame .opening .correction .0) d) AfterCorrection
@@ -288,6 +295,34 @@ terms (settles r d) =
           (rule (flagOf r (v .frame .settled)) AlreadySettled
           (rule (eqb r 2 && not (flagOf 1 (v .frame .settled))) FirstRunOpen
           [])))));
+    }
+terms (lodges g d es) =
+    record {
+      opening = false;
+      takes = theSchedules;
+      quarters = λ m. m;
+      day = λ e. d;
+      asks = askingNothing;
+      rules = λ v n.
+          rule (not (isOpen (v .frame .opening))) NotOpen
+          (rule (otherLengths theSchedules n (v .frame .opening)) WrongLength
+          (rule (not (lodgeOk g d (v .frame .opening .quarters) es)) BadField
+          (rule (ltb d (v .frame .day .0)) PastDay
+          (rule (ltb (v .frame .opening .clearing .0) d) AfterClearing
+          []))));
+    }
+terms (reports r g) =
+    record {
+      opening = false;
+      takes = bookAndSchedules;
+      quarters = λ m. m;
+      day = λ e. e;
+      asks = askingNothing;
+      rules = λ v n.
+          rule (not (isOpen (v .frame .opening))) NotOpen
+          (rule (otherLengths bookAndSchedules n (v .frame .opening)) WrongLength
+          (rule (not (runOk r && groupOk g)) BadField
+          []));
     }
 
 -- the stores that a call takes; one that it does not take may be any, and is not looked at

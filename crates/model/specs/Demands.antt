@@ -9,7 +9,7 @@ use Rattle.state.specs.Desk.{versionsIn}
 use Rattle.state.specs.Version.{held}
 use Rattle.state.specs.declared.Desk.{Desk}
 use Rattle.model.specs.Agreement.{fresh, replies, end, bookFigure}
-use Rattle.model.specs.Call.{Call, opens, activates, deactivates, submits, notices, assigns, shows, asks, settles, Stores, lengthsOf, Lent, told}
+use Rattle.model.specs.Call.{Call, opens, activates, deactivates, submits, notices, assigns, shows, asks, settles, lodges, reports, Stores, lengthsOf, Lent, told}
 use Rattle.model.specs.Log.{logNumbers, logged}
 use Rattle.model.specs.Plain.{plainReplies, plainEnd, versionsOf, logOf, figure}
 use Rattle.model.specs.Step.{Outcome, step}
@@ -30,6 +30,8 @@ asksStatus (assigns a g d) = false
 asksStatus (shows r g) = false
 asksStatus (asks p x) = true
 asksStatus (settles r d) = false
+asksStatus (lodges g d es) = false
+asksStatus (reports r g) = false
 
 -- accepted with 0, and of status with a status
 abbrev pub Granted : Call → Answer → Type 0
@@ -37,11 +39,14 @@ Granted c Accepted = asksStatus c ≡ false
 Granted c (HasStatus s) = asksStatus c ≡ true
 Granted c (Refused x) = Unit {0}
 
--- "a refused call leaves the desk, value store, book, log and output as they were"; "A refused show returns an empty part too"
+-- "a refused call leaves the desk, value store, book, log and output as they were"; "A refused show returns an empty part too"; a report's sums are
+-- "both 0 when refused"
 pub record Untouched (d : Desk) (s : Stores) (o : Outcome) : Type 0 where
   pub desk : o .desk ≡ d
   pub stores : o .stores ≡ s
   pub part : o .part ≡ []
+  pub surplus : o .surplus ≡ 0
+  pub shortfall : o .shortfall ≡ 0
 
 -- demand 1: "Whoever calls the desk, with any numbers, series, bytes or stores, open or not"
 pub record DemandOne (d : Desk) (l : Lent) : Type 0 where

@@ -1,5 +1,5 @@
 -- What both desks share, said in other words: a theorem of their agreement could not judge it.
-use Prim.Native.Nat.{ℕ, _+_, _-_, _≤_, _<_}
+use Prim.Native.Nat.{ℕ, _+_, _-_, _*_, _≤_, _<_}
 use mathlib.Core.Path.{_≡_}
 use mathlib.Core.Bool.{true, false, cond}
 use mathlib.Core.List.{List, [], _∷_, _++_}
@@ -7,6 +7,7 @@ use mathlib.Core.Logic.{_⊎_}
 use lib.Dec.{eqb}
 use lib.IntN.{ℤ, pos, _+ℤ_, _-ℤ_}
 use lib.ListN.{length, getD}
+use Rattle.quantity.specs.Word.{word}
 use Rattle.state.specs.Point.{activePoint}
 use Rattle.state.specs.Selection.{own, selected, SameVersion, versionOf}
 use Rattle.state.specs.Status.{statusNumber, isCheck}
@@ -17,7 +18,7 @@ use Rattle.state.specs.declared.Selection.the-variants.{None, Selected}
 use Rattle.state.specs.declared.Status.{Status}
 use Rattle.state.specs.declared.VersionRecord.{VersionRecord}
 use Rattle.state.specs.declared.VersionRow.{VersionRow}
-use Rattle.model.specs.Call.{Call, opens, activates, deactivates, submits, notices, assigns, shows, asks, settles, Lengths}
+use Rattle.model.specs.Call.{Call, opens, activates, deactivates, submits, notices, assigns, shows, asks, settles, lodges, reports, Lengths}
 use Rattle.model.specs.Causes.{Rule}
 use Rattle.model.specs.Log.{logWords}
 use Rattle.model.specs.Plain.{Worked}
@@ -134,6 +135,7 @@ pub record Opens (quarters first clearing correction : ℕ) (groups : List ℕ) 
   pub values : w .opening .values ≡ n .values
   pub book : w .opening .book ≡ n .book
   pub log : w .opening .log ≡ n .log
+  pub schedules : w .opening .schedules ≡ n .schedules
   pub given : w .groups ≡ groups
 
 -- an element of a list is another one, and every other as it was; z is read past the end
@@ -154,6 +156,12 @@ pub record Delivers (point version day : ℕ) (energies : List ℤ) (before afte
   pub series : getD (after .energies) (length (before .energies)) [] ≡ energies
   pub earlier : (j : ℕ) → j < length (before .energies) → getD (after .energies) j [] ≡ getD (before .energies) j []
 
+-- document 02: "group g, quarter q at (g-1) × Q + q-1": a group's energies stand there, and every other number of the schedules is as it was
+pub record Lodges (quarters group : ℕ) (energies : List ℤ) (before after : List ℕ) : Type 0 where
+  pub there : (n : ℕ) → 1 ≤ n → n ≤ quarters → getD after ((group - 1) * quarters + (n - 1)) 0 ≡ word (getD energies (n - 1) (pos 0))
+  pub others : (i : ℕ) → (i < (group - 1) * quarters) ⊎ (group * quarters ≤ i) → getD after i 0 ≡ getD before i 0
+  pub size : length after ≡ length before
+
 -- "An accepted call with a day sets it."
 abbrev pub dayBy : Call → (before : ℕ) → ℕ
 dayBy (opens q f c k gs) e = e
@@ -165,3 +173,5 @@ dayBy (assigns a g d) e = d
 dayBy (shows r g) e = e
 dayBy (asks p x) e = e
 dayBy (settles r d) e = d
+dayBy (lodges g d es) e = d
+dayBy (reports r g) e = e

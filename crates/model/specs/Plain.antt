@@ -1,13 +1,15 @@
 -- The plain desk: "It keeps one list, empty at first. .. All else is worked out by going through the list from its start."
 -- The list stands newest first: what "joins the end" is put in front, and each definition says what the last call makes of what the calls
 -- before it gave, so it goes through the list from its start.
-use Prim.Native.Nat.{ℕ, zero, suc}
+use Prim.Native.Nat.{ℕ, zero, suc, _-_}
 use mathlib.Core.List.{List, [], _∷_, _++_}
-use lib.IntN.{ℤ}
-use lib.ListN.{length, set, replicate}
-use Rattle.quantity.specs.Limits.{points, deltas}
+use lib.IntN.{ℤ, pos}
+use lib.ListN.{length, getD, set, replicate}
+use Rattle.quantity.specs.Limits.{points, deltas, groups as groupCount}
 use Rattle.quantity.specs.Lists.{fold}
+use Rattle.quantity.specs.Sum.{sumTo}
 use Rattle.book.specs.Place.{groupRow}
+use Rattle.deviation.specs.Deviation.{surplus, shortfall}
 use Rattle.state.specs.Change.{submitted, noticed, settledBy}
 use Rattle.state.specs.Desk.{unopened, noRun, frameOf, flagged}
 use Rattle.state.specs.Point.{freePoint, activePoint, withPoint}
@@ -16,7 +18,7 @@ use Rattle.state.specs.declared.Opening.{Opening}
 use Rattle.state.specs.declared.PointRecord.{PointRecord}
 use Rattle.state.specs.declared.Runs.{Runs}
 use Rattle.state.specs.declared.VersionRecord.{VersionRecord}
-use Rattle.model.specs.Call.{Call, opens, activates, deactivates, submits, notices, assigns, shows, asks, settles, Lengths, Told, Reply}
+use Rattle.model.specs.Call.{Call, opens, activates, deactivates, submits, notices, assigns, shows, asks, settles, lodges, reports, Lengths, Told, Reply}
 use Rattle.model.specs.Causes.{terms, openingBy, refusal}
 use Rattle.model.specs.Log.{due, addRow}
 use Rattle.model.specs.Series.{figureOf, outsideOf}
@@ -29,7 +31,7 @@ use Rattle.model.specs.declared.Ruling.{Ruling}
 use Rattle.model.specs.declared.Ruling.the-variants.{Fine, Refuse}
 
 -- what the plain desk works out: the opening, the day, the points, the delta groups, the versions, the energies of the submissions in their
--- order, the log rows, the runs settled
+-- order, the log rows, the runs settled, the schedules lodged
 pub record Worked : Type 0 where
   pub opening : Opening
   pub day : ℕ
@@ -39,14 +41,15 @@ pub record Worked : Type 0 where
   pub energies : List (List ℤ)
   pub log : List LogRow
   pub settled : Runs
+  pub schedules : List (List ℤ)
 
 -- the same of its parts
-abbrev pub worked : Opening → (day : ℕ) → List PointRecord → (groups : List ℕ) → List VersionRecord → List (List ℤ) → List LogRow → Runs → Worked
-worked o d ps gs vs es l r = record { opening = o; day = d; points = ps; groups = gs; versions = vs; energies = es; log = l; settled = r }
+abbrev pub worked : Opening → (day : ℕ) → List PointRecord → (groups : List ℕ) → List VersionRecord → List (List ℤ) → List LogRow → Runs → (schedules : List (List ℤ)) → Worked
+worked o d ps gs vs es l r ss = record { opening = o; day = d; points = ps; groups = gs; versions = vs; energies = es; log = l; settled = r; schedules = ss }
 
--- "one list, empty at first"
+-- "one list, empty at first": no group has lodged
 abbrev pub nothingYet : Worked
-nothingYet = worked unopened 0 (replicate points freePoint) (replicate deltas 0) [] [] [] noRun
+nothingYet = worked unopened 0 (replicate points freePoint) (replicate deltas 0) [] [] [] noRun (replicate groupCount [])
 
 -- what a call sets
 pub data Setting : Type 0 where
@@ -57,28 +60,31 @@ pub data Setting : Type 0 where
   delivered : (point version : ℕ) (energies : List ℤ) → Setting
   judged : (point version verdict : ℕ) → Setting
   settledIn : (run : ℕ) → Setting
+  lodged : (group : ℕ) (energies : List ℤ) → Setting
 
 -- "A call that changes run 1's selection or run 2's own adds one log row.": other versions of a point
 abbrev pub withVersions : (point : ℕ) → List VersionRecord → Worked → Worked
 withVersions p ws w =
-    worked (w .opening) (w .day) (w .points) (w .groups) ws (w .energies) (addRow (due (w .versions) ws p (w .day)) (w .log)) (w .settled)
+    worked (w .opening) (w .day) (w .points) (w .groups) ws (w .energies) (addRow (due (w .versions) ws p (w .day)) (w .log)) (w .settled) (w .schedules)
 
 -- one submission's energies more
 abbrev pub withEnergies : List ℤ → Worked → Worked
-withEnergies es w = worked (w .opening) (w .day) (w .points) (w .groups) (w .versions) (w .energies ++ (es ∷ [])) (w .log) (w .settled)
+withEnergies es w = worked (w .opening) (w .day) (w .points) (w .groups) (w .versions) (w .energies ++ (es ∷ [])) (w .log) (w .settled) (w .schedules)
 
 -- one setting more. "The opening gives Q, deadlines and store lengths." "A point is active from activation to deactivation." "A delta's group is
 -- the one set last." "Each submission makes a version that takes a row of values; its status comes from its day, then from later notices and
--- settles by the rules above."
+-- settles by the rules above." Document 02: a schedule "may be replaced"
 abbrev pub setIn : Worked → Setting → Worked
-setIn w (opened o gs) = worked o (w .day) (w .points) gs (w .versions) (w .energies) (w .log) (w .settled)
-setIn w (dated d) = worked (w .opening) d (w .points) (w .groups) (w .versions) (w .energies) (w .log) (w .settled)
-setIn w (placed p r) = worked (w .opening) (w .day) (withPoint (w .points) p r) (w .groups) (w .versions) (w .energies) (w .log) (w .settled)
-setIn w (allotted a g) = worked (w .opening) (w .day) (w .points) (set (w .groups) a g) (w .versions) (w .energies) (w .log) (w .settled)
+setIn w (opened o gs) = worked o (w .day) (w .points) gs (w .versions) (w .energies) (w .log) (w .settled) (w .schedules)
+setIn w (dated d) = worked (w .opening) d (w .points) (w .groups) (w .versions) (w .energies) (w .log) (w .settled) (w .schedules)
+setIn w (placed p r) = worked (w .opening) (w .day) (withPoint (w .points) p r) (w .groups) (w .versions) (w .energies) (w .log) (w .settled) (w .schedules)
+setIn w (allotted a g) = worked (w .opening) (w .day) (w .points) (set (w .groups) a g) (w .versions) (w .energies) (w .log) (w .settled) (w .schedules)
 setIn w (delivered p x es) =
     withEnergies es (withVersions p (submitted (newVersion (w .opening .first .0) (length (w .versions)) p x (w .day)) (w .versions)) w)
 setIn w (judged p x y) = withVersions p (noticed (w .opening .clearing .0) p x y (w .day) (w .versions)) w
-setIn w (settledIn r) = worked (w .opening) (w .day) (w .points) (w .groups) (settledBy r (w .versions)) (w .energies) (w .log) (flagged r (w .settled))
+setIn w (settledIn r) = worked (w .opening) (w .day) (w .points) (w .groups) (settledBy r (w .versions)) (w .energies) (w .log) (flagged r (w .settled)) (w .schedules)
+setIn w (lodged g es) =
+    worked (w .opening) (w .day) (w .points) (w .groups) (w .versions) (w .energies) (w .log) (w .settled) (set (w .schedules) (groupRow g) es)
 
 -- beside its day, one line a call
 abbrev pub sets : Told → List Setting
@@ -94,6 +100,8 @@ sets t = setsBy (t .lengths) (t .call)
     setsBy n (shows r g) = []
     setsBy n (asks p x) = []
     setsBy n (settles r d) = settledIn r ∷ []
+    setsBy n (lodges g d es) = lodged g es ∷ []
+    setsBy n (reports r g) = []
 
 -- "The day is that of the last call with one, or 0."; then what else the call sets
 unfoldable pub after : Told → Worked → Worked
@@ -136,6 +144,10 @@ logOf h = workedOut h .log
 abbrev pub settledOf : List Told → Runs
 settledOf h = workedOut h .settled
 
+-- its schedules
+abbrev pub schedulesOf : List Told → List (List ℤ)
+schedulesOf h = workedOut h .schedules
+
 -- what the table of causes looks at
 abbrev pub viewBy : Worked → View
 viewBy w =
@@ -157,16 +169,37 @@ figure h run k q = figureOf (pointsOf h) (groupsOf h) (versionsOf h) (energiesOf
 unfoldable pub outside : List Told → (run quarter : ℕ) → ℤ
 outside h run q = outsideOf (pointsOf h) (versionsOf h) (energiesOf h) run q
 
+-- what a group planned to take in a quarter hour, counted from 0; where it has lodged nothing, 0
+unfoldable pub scheduleIn : List (List ℤ) → (group quarter : ℕ) → ℤ
+scheduleIn ss g q = getD (getD ss (groupRow g) []) q (pos 0)
+
+-- the same of the list
+unfoldable pub schedule : List Told → (group quarter : ℕ) → ℤ
+schedule h g q = scheduleIn (schedulesOf h) g q
+
+-- "For each run, group and quarter hour the surplus": of the list
+abbrev pub surplusAt : List Told → (run group quarter : ℕ) → ℤ
+surplusAt h run g q = surplus (schedule h g q) (figure h run (groupRow g) q)
+
+-- "the shortfall"
+abbrev pub shortfallAt : List Told → (run group quarter : ℕ) → ℤ
+shortfallAt h run g q = shortfall (schedule h g q) (figure h run (groupRow g) q)
+
+-- the sum over the month's quarter hours, counted from 0
+abbrev pub monthly : List Told → (ℕ → ℤ) → ℤ
+monthly h f = sumTo (openingOf h .quarters) (λ (n : ℕ). f (n - 1))
+
 -- f 0, .., f (n - 1)
 unfoldable pub tab : {A : Type 0} → ℕ → (ℕ → A) → List A
 tab zero f = []
 tab (suc n) f = tab n f ++ (f n ∷ [])
 
--- an answer with no row
+-- an answer with no row and both sums 0
 abbrev pub plainly : Answer → Reply
-plainly a = record { answer = a; row = [] }
+plainly a = record { answer = a; row = []; surplus = pos 0; shortfall = pos 0 }
 
--- "status gets the version's status, show 0 and its group's Q figures, the rest 0"
+-- "status gets the version's status, show 0 and its group's Q figures, the rest 0"; document 02: "A report of run and group gives both sums over the
+-- month in watt-hours"
 abbrev pub granted : List Told → Call → Reply
 granted h (opens q f c k gs) = plainly Accepted
 granted h (activates p k a b d) = plainly Accepted
@@ -174,9 +207,11 @@ granted h (deactivates p d) = plainly Accepted
 granted h (submits p x d es) = plainly Accepted
 granted h (notices p x y d) = plainly Accepted
 granted h (assigns a g d) = plainly Accepted
-granted h (shows r g) = record { answer = Accepted; row = tab (openingOf h .quarters) (λ (q : ℕ). figure h r (groupRow g) q) }
+granted h (shows r g) = record { answer = Accepted; row = tab (openingOf h .quarters) (λ (q : ℕ). figure h r (groupRow g) q); surplus = pos 0; shortfall = pos 0 }
 granted h (asks p x) = plainly (statusAnswer (held p x (versionsOf h)))
 granted h (settles r d) = plainly Accepted
+granted h (lodges g d es) = plainly Accepted
+granted h (reports r g) = record { answer = Accepted; row = []; surplus = monthly h (surplusAt h r g); shortfall = monthly h (shortfallAt h r g) }
 
 -- "A call that the table below refuses gets its number, show an empty row too, and leaves the list as it is"
 unfoldable pub answered : Ruling → List Told → Call → Reply

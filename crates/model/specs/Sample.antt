@@ -4,7 +4,7 @@ use mathlib.Core.Path.{_≡_}
 use mathlib.Core.List.{List, [], _∷_, _++_, map}
 use lib.IntN.{ℤ, pos, negsuc}
 use lib.ListN.{length, getD, replicate}
-use Rattle.quantity.specs.Limits.{groups, bookRows}
+use Rattle.quantity.specs.Limits.{groups, bookRows, scheduleRows}
 use Rattle.quantity.specs.Sum.{sumTo}
 use Rattle.book.specs.Place.{groupRow}
 use Rattle.message.specs.File.{verdictOf, refusalOf, offsetOf}
@@ -39,7 +39,7 @@ runningDesk s =
 
 -- the stores of the desk program: "4,096 values, 162 × Q book, 512 log rows"
 abbrev pub room : (quarters : ℕ) → Lengths
-room q = record { values = 4096; book = bookRows * q; log = 2048 }
+room q = record { values = 4096; book = bookRows * q; log = 2048; schedules = scheduleRows * q }
 
 -- "delta groups T 4, area 1: 1, area 2: 2, others 3"
 abbrev pub deltaGroups : List ℕ

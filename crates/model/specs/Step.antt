@@ -3,13 +3,15 @@ use Prim.Native.Nat.{ℕ, _*_}
 use mathlib.Core.Bool.{Bool, true, false, cond, not, _&&_}
 use mathlib.Core.List.{List, [], map}
 use lib.ListN.{getD, set, replicate}
-use Rattle.quantity.specs.Limits.{bookRows}
+use Rattle.quantity.specs.Limits.{bookRows, scheduleRows}
 use Rattle.quantity.specs.Word.{word, signed}
 use Rattle.book.specs.Place.{groupRow, deltaRow, rowStart}
 use Rattle.book.specs.Posting.{posted}
 use Rattle.book.specs.Row.{back, part, splice}
 use Rattle.book.specs.declared.Way.{Way}
 use Rattle.book.specs.declared.Way.the-variants.{In, Out}
+use Rattle.deviation.specs.Month.{monthSurplus, monthShortfall}
+use Rattle.deviation.specs.Place.{scheduleStart}
 use Rattle.state.specs.Change.{submitted, noticed, submittedDesk, noticedDesk, settledDesk}
 use Rattle.state.specs.Desk.{openDesk, versionsIn, rowsUsed, deskWith, theDay, theGroups, theUsed, theSettled, thePoints, flagged}
 use Rattle.state.specs.Point.{freePoint, activePoint, pointAt, withPoint}
@@ -22,7 +24,7 @@ use Rattle.state.specs.declared.Held.the-variants.{Absent, Has}
 use Rattle.state.specs.declared.Selection.{Selection}
 use Rattle.state.specs.declared.Selection.the-variants.{None, Selected}
 use Rattle.state.specs.declared.VersionRecord.{VersionRecord}
-use Rattle.model.specs.Call.{Call, opens, activates, deactivates, submits, notices, assigns, shows, asks, settles, Stores, Lent, Told, lengthsOf, told, Reply}
+use Rattle.model.specs.Call.{Call, opens, activates, deactivates, submits, notices, assigns, shows, asks, settles, lodges, reports, Stores, Lent, Told, lengthsOf, told, Reply}
 use Rattle.model.specs.Causes.{Rule, terms, rules, rule, firstOf, openingBy}
 use Rattle.model.specs.Log.{differ, turnOf, due, logged, usedAfter}
 use Rattle.model.specs.Series.{sidesOf}
@@ -83,22 +85,36 @@ moveRun run q a old new book =
 unfoldable pub moved : (quarters area old new : ℕ) → List ℕ → List ℕ
 moved q a old new book = moveRun 2 q a old new (moveRun 1 q a old new book)
 
--- ---- the nine calls, accepted
+-- ---- the calls, accepted
 
--- an answer, show's part, and the desk and the stores after the call
+-- an answer, show's part, a report's two sums, and the desk and the stores after the call
 pub record Outcome : Type 0 where
   pub answer : Answer
   pub part : List ℕ
+  pub surplus : ℕ
+  pub shortfall : ℕ
   pub desk : Desk
   pub stores : Stores
 
--- an accepted call that shows nothing
+-- an answer, with an empty part and both sums 0
+abbrev pub answering : Answer → Desk → Stores → Outcome
+answering a d s = record { answer = a; part = []; surplus = 0; shortfall = 0; desk = d; stores = s }
+
+-- an accepted call that shows and reports nothing
 abbrev pub accept : Desk → Stores → Outcome
-accept d s = record { answer = Accepted; part = []; desk = d; stores = s }
+accept d s = answering Accepted d s
 
 -- the stores with another book
 abbrev pub withBook : Stores → List ℕ → Stores
-withBook s l = record { values = s .values; book = l; log = s .log }
+withBook s l = record { values = s .values; book = l; log = s .log; schedules = s .schedules }
+
+-- with other schedules
+abbrev pub withSchedules : Stores → List ℕ → Stores
+withSchedules s l = record { values = s .values; book = s .book; log = s .log; schedules = l }
+
+-- "Book all 0; .. values and log untouched."; document 02: open "fills it with 0"
+abbrev pub cleared : (quarters : ℕ) → Stores → Stores
+cleared q s = withSchedules (withBook s (replicate (bookRows * q) 0)) (replicate (scheduleRows * q) 0)
 
 -- a change of the versions of a point: book and log follow
 abbrev pub followed : Desk → Stores → (point day : ℕ) (after : List VersionRecord) (values : List ℕ) → Stores
@@ -107,6 +123,7 @@ followed d s p day ws values =
       values = values;
       book = amended (d .frame .opening .quarters) (sidesOf (d .frame .groups) (pointAt (d .points) p)) p (versionsIn d) ws values (s .book);
       log = logged (d .frame .used) (due (versionsIn d) ws p day) (s .log);
+      schedules = s .schedules;
     }
 
 -- the desk then: the log rows used, and the day
@@ -124,7 +141,7 @@ statusAnswer (Has i v) = HasStatus (v .status)
 
 -- "The calls, in building order"
 abbrev pub granting : Desk → Stores → Call → Outcome
-granting d s (opens q f c k gs) = accept (openDesk (openingBy q f c k (lengthsOf s)) gs) (withBook s (replicate (bookRows * q) 0))
+granting d s (opens q f c k gs) = accept (openDesk (openingBy q f c k (lengthsOf s)) gs) (cleared q s)
 granting d s (activates p k a b day) = accept (deskWith (deskWith d (thePoints (withPoint (d .points) p (activePoint k a b day)))) (theDay day)) s
 granting d s (deactivates p day) = accept (deskWith (deskWith d (thePoints (withPoint (d .points) p freePoint))) (theDay day)) s
 granting d s (submits p x day es) =
@@ -141,11 +158,24 @@ granting d s (shows r g) =
     record {
       answer = Accepted;
       part = part (s .book) (rowStart (d .frame .opening .quarters) r (groupRow g)) (d .frame .opening .quarters);
+      surplus = 0;
+      shortfall = 0;
       desk = d;
       stores = s;
     }
-granting d s (asks p x) = record { answer = statusAnswer (held p x (versionsIn d)); part = []; desk = d; stores = s }
+granting d s (asks p x) = answering (statusAnswer (held p x (versionsIn d))) d s
 granting d s (settles r day) = accept (deskWith (deskWith (settledDesk d r) (theSettled (flagged r (d .frame .settled)))) (theDay day)) s
+granting d s (lodges g day es) =
+    accept (deskWith d (theDay day)) (withSchedules s (splice (s .schedules) (scheduleStart (d .frame .opening .quarters) g) (d .frame .opening .quarters) (map word es)))
+granting d s (reports r g) =
+    record {
+      answer = Accepted;
+      part = [];
+      surplus = monthSurplus (s .schedules) (s .book) (d .frame .opening .quarters) r g;
+      shortfall = monthShortfall (s .schedules) (s .book) (d .frame .opening .quarters) r g;
+      desk = d;
+      stores = s;
+    }
 
 -- ---- a step
 
@@ -157,15 +187,16 @@ lines d t = rule (not (terms (t .call) .opening) && not (validDesk d)) NotOpen (
 unfoldable pub refusalBy : Desk → Told → Ruling
 refusalBy d t = firstOf (lines d t)
 
--- "A refusal returns its number and changes nothing in the desk, its stores or the output. A refused show returns an empty part too"
+-- "A refusal returns its number and changes nothing in the desk, its stores or the output. A refused show returns an empty part too"; document 02: a
+-- report's sums are "both 0 when refused"
 unfoldable pub decided : Ruling → Desk → Stores → Call → Outcome
 decided Fine d s c = granting d s c
-decided (Refuse x) d s c = record { answer = Refused x; part = []; desk = d; stores = s }
+decided (Refuse x) d s c = answering (Refused x) d s
 
 -- one call
 unfoldable pub step : Desk → Lent → Outcome
 step d l = decided (refusalBy d (told l)) d (l .stores) (l .call)
 
--- the answer with show's row, read as signed numbers
+-- the answer with show's row and a report's sums, read as signed numbers
 abbrev pub replyOf : Outcome → Reply
-replyOf o = record { answer = o .answer; row = map signed (o .part) }
+replyOf o = record { answer = o .answer; row = map signed (o .part); surplus = signed (o .surplus); shortfall = signed (o .shortfall) }

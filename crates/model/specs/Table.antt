@@ -19,7 +19,7 @@ use Rattle.state.specs.declared.Frame.{Frame}
 use Rattle.state.specs.declared.PointState.the-variants.{Active}
 use Rattle.state.specs.declared.PointRecord.{PointRecord}
 use Rattle.state.specs.declared.VersionRecord.{VersionRecord}
-use Rattle.model.specs.Call.{Call, opens, activates, deactivates, submits, notices, assigns, shows, asks, settles, Lengths, causeNumber}
+use Rattle.model.specs.Call.{Call, opens, activates, deactivates, submits, notices, assigns, shows, asks, settles, lodges, reports, Lengths, causeNumber}
 use Rattle.model.specs.View.{View, viewOf}
 use Rattle.model.specs.declared.Answer.{Answer}
 use Rattle.model.specs.declared.Answer.the-variants.{Refused}
@@ -105,7 +105,8 @@ Allowed q f c k gs n =
     (Between 1 2980 q
     × (((1 ≤ f) × ((f < c) × ((c < k) × (k ≤ 399))))
     × ((n .book ≡ 162 * q)
-    × (n .log % 4 ≡ 0))))
+    × ((n .log % 4 ≡ 0)
+    × (n .schedules ≡ 64 * q)))))
     × ((length gs ≡ 17) × Each 0 (Between 1 64) gs)
 
 -- a submission's fields: point, version, day, "Q energies", "each from -10^12 to 10^12"
@@ -116,6 +117,14 @@ SubmitIn p x d q es =
     × ((d ≤ 400)
     × ((length es ≡ q)
     × Each (pos 0) (λ (e : ℤ). natAbs e ≤ 1000000000000) es)))
+
+-- a lodging's fields: group, day, "Q energies", each in its range
+abbrev pub LodgeIn : (group day quarters : ℕ) → List ℤ → Type 0
+LodgeIn g d q es =
+    Between 1 64 g
+    × ((d ≤ 400)
+    × ((length es ≡ q)
+    × Each (pos 0) (λ (e : ℤ). natAbs e ≤ 1000000000000) es))
 
 module _ (v : View) (n : Lengths) where
   -- "desk not open": "An unopened desk has no quarter hours."
@@ -130,6 +139,10 @@ module _ (v : View) (n : Lengths) where
   -- the book alone
   abbrev pub OtherBook : Type 0
   OtherBook = n .book ≡ v .frame .opening .book → ⊥
+
+  -- the schedules alone
+  abbrev pub OtherSchedules : Type 0
+  OtherSchedules = n .schedules ≡ v .frame .opening .schedules → ⊥
 
   -- "Checks go down the table, only those that fit the call"
   abbrev pub table : Call → Table
@@ -204,6 +217,18 @@ module _ (v : View) (n : Lengths) where
       (line 28 (((r ≡ 1) × (v .frame .settled .first ≡ true)) ⊎ ((r ≡ 2) × (v .frame .settled .second ≡ true)))
       (line 29 ((r ≡ 2) × (v .frame .settled .first ≡ false))
       end)))))
+  table (lodges g d es) =
+      line 1 Unopened
+      (line 2 OtherSchedules
+      (line 3 (LodgeIn g d (v .frame .opening .quarters) es → ⊥)
+      (line 5 (d < v .frame .day .0)
+      (line 26 (v .frame .opening .clearing .0 < d)
+      end))))
+  table (reports r g) =
+      line 1 Unopened
+      (line 2 (OtherSchedules ⊎ OtherBook)
+      (line 3 (((r ≡ 1) ⊎ (r ≡ 2)) × Between 1 64 g → ⊥)
+      end))
 
 -- "(all but open)"
 abbrev pub allButOpen : Call → Type 0 → Table → Table
@@ -216,6 +241,8 @@ allButOpen (assigns a g d) P t = line 1 P t
 allButOpen (shows r g) P t = line 1 P t
 allButOpen (asks p x) P t = line 1 P t
 allButOpen (settles r d) P t = line 1 P t
+allButOpen (lodges g d es) P t = line 1 P t
+allButOpen (reports r g) P t = line 1 P t
 
 -- the table on a desk in any state
 abbrev pub deskTable : Desk → Lengths → Call → Table

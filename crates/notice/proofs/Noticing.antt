@@ -29,7 +29,7 @@ use Rattle.state.proofs.Kept.{is-check, notice-own, notice-negative}
 use Rattle.state.proofs.Picks.{held-right}
 use Rattle.state.specs.Effect.{changedBy}
 use Rattle.state.specs.declared.Effect.{Effect}
-use Rattle.model.specs.Call.{notices}
+use Rattle.model.specs.Call.{Stores, notices}
 use Rattle.model.specs.Causes.{rules, firstOf, notCheck, logFull}
 use Rattle.model.specs.Log.{turnOf, due}
 use Rattle.model.specs.Series.{sidesOf}
@@ -44,9 +44,10 @@ use Rattle.model.proofs.Selections.{noticed-restated, restated-all}
 use Rattle.amend.proofs.Logs.{room-left}
 use Rattle.amend.proofs.Within.{turn-in}
 use Rattle.checks.specs.Lent.{lengthsIn, sizesOf}
-use Rattle.checks.specs.Stepped.{storesOf, IsStep}
+use Rattle.checks.specs.Stepped.{storing, IsStep}
 use Rattle.checks.specs.Survey.{Surveyed}
 use Rattle.checks.specs.declared.Survey.{Survey}
+use Rattle.checks.proofs.Deciding.{noLengths}
 use Rattle.checks.proofs.Lengths.{lengths}
 use Rattle.notice.specs.Notice.{noticedIn, ownBy, turnBy, noticedRecord, CheckAt, NoticeFits, NoticeEffect}
 
@@ -96,27 +97,27 @@ check-found d p x (Has i v) k few long e =
 
 module _ (d : Desk) (p x y day : ℕ) (values book log : List ℕ) (h : Held) (t : Turn) (o : Due) (s : Sound d) (table : length (d .versions) ≡ versions)
     (H : h ≡ held p x (versionsIn d)) (T : t ≡ turnOf (versionsIn d) (noticedIn d p x y day) p) (D : o ≡ due (versionsIn d) (noticedIn d p x y day) p day) where
-  pub notice-allowed : {here : PointState} → here ≡ pointAt (d .points) p → firstOf (rules (viewOf d) (lengthsIn (sizesOf values book log)) (notices p x y day)) ≡ Fine → NoticeFits d here h values book log t o
+  pub notice-allowed : {here : PointState} → here ≡ pointAt (d .points) p → firstOf (rules (viewOf d) (lengthsIn noLengths (sizesOf values book log)) (notices p x y day)) ≡ Fine → NoticeFits d here h values book log t o
   notice-allowed known fine =
-      let P = passed (rules (viewOf d) (lengthsIn (sizesOf values book log)) (notices p x y day)) fine in
-      let n = lengths (sizesOf values book log) (d .frame .opening) (past 2 (rules (viewOf d) (lengthsIn (sizesOf values book log)) (notices p x y day)) P) in
+      let P = passed (rules (viewOf d) (lengthsIn noLengths (sizesOf values book log)) (notices p x y day)) fine in
+      let n = lengths noLengths (sizesOf values book log) (d .frame .opening) (past 2 (rules (viewOf d) (lengthsIn noLengths (sizesOf values book log)) (notices p x y day)) P) in
       let rows = rowsIn (d .frame .opening) in
       let fits : rows * d .frame .opening .quarters ≤ d .frame .opening .values = rows-fit (d .frame .opening) (s .quarters) rows (omega arith) in
       let ok : all (versionRecordOk rows) (noticedIn d p x y day) ≡ true = restated-all (versionsIn d) (noticedIn d p x y day) (noticed-restated (d .frame .opening .clearing .0) p x y day (versionsIn d)) (versionRecordOk rows) (λ v. refl) (s .versions) in
       record {
         sound = s;
         fit = rw known (state-in d s p);
-        check = rw H (check-found d p x (held p x (versionsIn d)) (held-right p x (versionsIn d)) (s .count) table (past 25 (rules (viewOf d) (lengthsIn (sizesOf values book log)) (notices p x y day)) P));
+        check = rw H (check-found d p x (held p x (versionsIn d)) (held-right p x (versionsIn d)) (s .count) table (past 25 (rules (viewOf d) (lengthsIn noLengths (sizesOf values book log)) (notices p x y day)) P));
         whole = n .1 ∙ s .book;
         turn = rw T (turn-in (d .frame .opening .quarters) rows values (omega (arith, n .0)) (versionsIn d) (noticedIn d p x y day) p (s .versions) ok);
-        left = room-left (d .frame .used) (d .frame .opening .log) log o (n .2) (ap (logFull (d .frame .used) (d .frame .opening .log)) D ∙ past 17 (rules (viewOf d) (lengthsIn (sizesOf values book log)) (notices p x y day)) P);
+        left = room-left (d .frame .used) (d .frame .opening .log) log o (n .2) (ap (logFull (d .frame .used) (d .frame .opening .log)) D ∙ past 17 (rules (viewOf d) (lengthsIn noLengths (sizesOf values book log)) (notices p x y day)) P);
       }
 
-  -- its effect is what the step makes of the desk and the stores
-  pub notice-stepped : {here : PointState} {e : Effect} {book′ log′ : List ℕ} → here ≡ pointAt (d .points) p → NoticeEffect d here h t o y day values book log e book′ log′
-      → IsStep (granting d (storesOf values book log) (notices p x y day)) Accepted (changedBy d e) values book′ log′
+  -- its effect is what the step makes of the desk and the stores, whatever the further stores are
+  pub notice-stepped : (u : Stores) {here : PointState} {e : Effect} {book′ log′ : List ℕ} → here ≡ pointAt (d .points) p → NoticeEffect d here h t o y day values book log e book′ log′
+      → IsStep (granting d (storing u values book log) (notices p x y day)) Accepted (changedBy d e) values book′ log′
   unfolding amended
-  notice-stepped {here = here} known n =
+  notice-stepped u {here = here} known n =
       record {
         answered = refl;
         held = n .desk ∙ rw (H, D);

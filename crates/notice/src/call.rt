@@ -49,7 +49,7 @@ ghost use mathlib.Core.Path.{_≡_};
 ghost use Rattle.state.specs.Desk.{versionsIn};
 ghost use Rattle.state.specs.Valid.{Sound};
 ghost use Rattle.state.specs.Effect.{changedBy, Fits};
-ghost use Rattle.model.specs.Call.{notices};
+ghost use Rattle.model.specs.Call.{Lengths, notices};
 ghost use Rattle.model.specs.Causes.{rules, firstOf, askingVersions};
 ghost use Rattle.model.specs.Log.{due as dueOf};
 ghost use Rattle.model.specs.View.{viewOf};
@@ -110,7 +110,7 @@ fn notice_ruling(
     requires { ⌜ Sound d ⌝ }
     requires { ⌜ Looked d (askingVersions (point .0) (version .0)) l ⌝ }
     requires { ⌜ due ≡ dueOf (versionsIn d) (noticedIn d (point .0) (version .0) verdict (day .0)) (point .0) (day .0) ⌝ }
-    ensures { λ r. ⌜ r ≡ firstOf (rules (viewOf d) (lengthsIn n) (notices (point .0) (version .0) verdict (day .0))) ⌝ }
+    ensures { λ r. ⌜ ((m : Lengths) → r ≡ firstOf (rules (viewOf d) (lengthsIn m n) (notices (point .0) (version .0) verdict (day .0)))) ⌝ }
 {
     let f = d.frame;
     let o = f.opening;

@@ -21,7 +21,7 @@ use Rattle.state.specs.Valid.{openingOk}
 use Rattle.state.specs.Walk.{walk}
 use Rattle.state.specs.declared.Selection.{Selection}
 use Rattle.state.specs.declared.Selection.the-variants.{None, Selected}
-use Rattle.model.specs.Call.{Call, opens, activates, deactivates, submits, notices, assigns, shows, asks, settles, Lengths, Told, answerNumber}
+use Rattle.model.specs.Call.{Call, opens, activates, deactivates, submits, notices, assigns, shows, asks, settles, lodges, reports, Lengths, Told, answerNumber}
 use Rattle.model.specs.Causes.{openingBy, opensOk, orIf, firstOf, rules, refusal}
 use Rattle.model.specs.Plain.{openingOf, pointsOf, versionsOf, energiesOf, viewIn, outside, answered, joined, plainReply, plainNext, plainEnd, workedOut, after}
 use Rattle.model.specs.Series.{energy, isOutside, outsideOf}
@@ -53,7 +53,7 @@ module _ (P : List Told → Type 0) (n : Lengths) (next : (h : List Told) (c : C
 -- ---- "treats Q > 8 as cause 4"
 
 -- of 162 × 8 figures an opening that is taken has 162 × Q
-within : (q : ℕ) → lentOf (lent .book) q ≡ bookRows * q → q ≤ programQuarters
+within : (q : ℕ) → lentOf bookRows (lent .book) q ≡ bookRows * q → q ≤ programQuarters
 unfolding lentOf
 within q e = by (leb (bookRows * q) (lent .book)) refl
   where
@@ -83,6 +83,8 @@ few-next h (assigns a g d) p e = p
 few-next h (shows r g) p e = p
 few-next h (asks x v) p e = p
 few-next h (settles r d) p e = p
+few-next h (lodges g d es) p e = p
+few-next h (reports r g) p e = p
 
 pub few-quarters : (cs : List Call) → openingOf (plainEnd [] (tells lent [] cs)) .quarters ≤ programQuarters
 unfolding workedOut after fold
@@ -122,6 +124,8 @@ fit-next n h (assigns a g d) p e = p
 fit-next n h (shows r g) p e = p
 fit-next n h (asks x v) p e = p
 fit-next n h (settles r d) p e = p
+fit-next n h (lodges g d es) p e = p
+fit-next n h (reports r g) p e = p
 
 fit-energies : (n : Lengths) (cs : List Call) → Fit (plainEnd [] (tells n [] cs))
 unfolding all workedOut after fold
@@ -168,6 +172,8 @@ bare-next h (assigns a g d) p e = p
 bare-next h (shows r g) p e = p
 bare-next h (asks x v) p e = p
 bare-next h (settles r d) p e = λ z. opened h (passed (rules (viewIn h) (toldAs lent h (settles r d) .lengths) (settles r d)) e .0) z
+bare-next h (lodges g d es) p e = p
+bare-next h (reports r g) p e = p
 
 none-selected : selectionsText [] ≡ []
 unfolding best walk eachTo selectionText selectionsText

@@ -92,7 +92,7 @@ ended file f most n g vs h room same held = by (f .ending) refl
 -- ---- a replay in the program's stores
 
 module _ (file : List ℕ) (s : Stores) (buffer output : List ℕ) (r : Replayed) (after : Stores) (buffer′ output′ : List ℕ) where
-  module _ (small : length file ≤ fileSize) (Z : Sized (s .values) (s .book) (s .log) buffer output) (R : Replays file s buffer output r after buffer′ output′) where
+  module _ (small : length file ≤ fileSize) (Z : Sized (s .values) (s .book) (s .log) (s .schedules) buffer output) (R : Replays file s buffer output r after buffer′ output′) where
     few : length (foundIn file .calls) < length output
     few = omega (arith, few-calls seriesSize file small, Z .answers)
 
@@ -101,7 +101,7 @@ module _ (file : List ℕ) (s : Stores) (buffer output : List ℕ) (r : Replayed
     calls-all = ap (λ (n : ℕ). callsFor file n (length output)) (Z .series) ∙ take-all (length output) (givenIn (foundIn file .calls)) (omega (arith, few, given-few (foundIn file .calls)))
 
     lengths-are : lengthsOf s ≡ lent
-    lengths-are = λ i. record { values = Z .values i; book = Z .book i; log = Z .log i }
+    lengths-are = λ i. record { values = Z .values i; book = Z .book i; log = Z .log i; schedules = Z .schedules i }
 
     told-all : toldOf s (callsFor file (length buffer) (length output)) ≡ toldIn file
     told-all = ap₂ (λ (n : Lengths) (cs : List Given). tells n [] (map given cs)) lengths-are calls-all

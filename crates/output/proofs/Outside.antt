@@ -26,6 +26,6 @@ pub total-outside : (file : List ℕ) (run q : ℕ) → 1 ≤ run → run ≤ ru
     → sumTo groups (λ (g : ℕ). figure (plainEnd [] (toldIn file)) run (groupRow g) q) ≡ outside (plainEnd [] (toldIn file)) run q
 total-outside file run q lo hi less =
     let cs = givenIn (foundIn file .calls) in
-    let s : Stores = record { values = replicate 4096 0; book = replicate 1296 0; log = replicate 2048 0 } in
-    let n : lengthsOf s ≡ lent = λ i. record { values = length-replicate {A = ℕ} 4096 0 i; book = length-replicate {A = ℕ} 1296 0 i; log = length-replicate {A = ℕ} 2048 0 i } in
+    let s : Stores = record { values = replicate 4096 0; book = replicate 1296 0; log = replicate 2048 0; schedules = replicate 512 0 } in
+    let n : lengthsOf s ≡ lent = λ i. record { values = length-replicate {A = ℕ} 4096 0 i; book = length-replicate {A = ℕ} 1296 0 i; log = length-replicate {A = ℕ} 2048 0 i; schedules = length-replicate {A = ℕ} 512 0 i } in
     leaves (plainEnd [] (toldIn file)) s _ (rw n at (gives s [] (replicate (length cs) 0) cs (omega (arith, length-replicate {A = ℕ} (length cs) 0)) .stores)) run q lo hi less

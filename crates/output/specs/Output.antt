@@ -5,7 +5,7 @@ use mathlib.Core.List.{List, [], _++_, map}
 use lib.Dec.{eqb}
 use lib.IntN.{ℤ, natAbs}
 use lib.ListN.{length, getD, take}
-use Rattle.quantity.specs.Limits.{mostQuarters, runs, points, groups, bookRows}
+use Rattle.quantity.specs.Limits.{mostQuarters, runs, points, groups, bookRows, scheduleRows}
 use Rattle.quantity.specs.Sum.{sumTo}
 use Rattle.book.specs.Place.{groupRow}
 use Rattle.state.specs.Selection.{selected}
@@ -35,9 +35,10 @@ seriesSize = mostQuarters
 abbrev pub programQuarters : ℕ
 programQuarters = 8
 
--- "4,096 values, 162 × Q book, 512 log rows": of a book for 8 quarter hours an opening is lent 162 × Q figures, and a log row has four numbers
+-- "4,096 values, 162 × Q book, 512 log rows", and schedules of 64 × Q: of a book and schedules for 8 quarter hours an opening is lent those of its Q,
+-- and a log row has four numbers
 abbrev pub lent : Lengths
-lent = record { values = 4096; book = bookRows * programQuarters; log = 4 * 512 }
+lent = record { values = 4096; book = bookRows * programQuarters; log = 4 * 512; schedules = scheduleRows * programQuarters }
 
 -- what the reader finds in a file
 abbrev pub foundIn : (file : List ℕ) → Found

@@ -21,10 +21,11 @@ abbrev pub Short : (answers : List ℕ) (n : ℕ) → Type 0
 Short l n = (i : ℕ) → i < n → getD l i 0 < 100
 
 -- stores of the program's sizes, its series buffer, and answers: one more than 65,536 bytes hold calls
-pub record Sized (v b l s a : List ℕ) : Type 0 where
+pub record Sized (v b l p s a : List ℕ) : Type 0 where
   pub values : length v ≡ lent .values
   pub book : length b ≡ lent .book
   pub log : length l ≡ lent .log
+  pub schedules : length p ≡ lent .schedules
   pub series : length s ≡ seriesSize
   pub answers : length a ≡ mostCalls + 1
 

@@ -7,6 +7,7 @@ use print::put_answers;
 use print::put_ending;
 use quantity::limits::BOOK_ROWS;
 use quantity::limits::QUARTERS;
+use quantity::limits::SCHEDULE_ROWS;
 ghost use Prim.Native.Nat.{_≤_, min};
 ghost use mathlib.Core.Path.{_≡_};
 ghost use lib.ListN.{length};
@@ -21,12 +22,14 @@ pub const MOST: usize = 330_781;
 // The desk reads so many bytes of its input.
 pub const FILE: usize = 65_536;
 
-// The stores: 162 × Q book for Q up to 8, log rows of four numbers, and one answer more than so many bytes hold calls.
+// The stores: 162 × Q book and 64 × Q schedules for Q up to 8, log rows of four numbers, and one answer more than so many bytes hold calls.
 const VALUES: usize = 4096;
 
 const BOOK: usize = BOOK_ROWS as usize * 8;
 
 const LOG: usize = 4 * 512;
+
+const SCHEDULES: usize = SCHEDULE_ROWS as usize * 8;
 
 const SERIES: usize = QUARTERS as usize;
 
@@ -46,13 +49,14 @@ fn put_output(
     values: &mut [u64],
     book: &mut [u64],
     log: &mut [u64],
+    schedules: &mut [u64],
     series: &mut [u64],
     answers: &mut [u64],
 ) -> usize
-    requires { ⌜ (length (now file) ≤ fileSize) × (most ≤ length (now out)) × Sized (now values) (now book) (now log) (now series) (now answers) ⌝ }
+    requires { ⌜ (length (now file) ≤ fileSize) × (most ≤ length (now out)) × Sized (now values) (now book) (now log) (now schedules) (now series) (now answers) ⌝ }
     ensures { λ r. ⌜ Put most 0 (textOf (now (file .entry))) (now (out .entry)) (now (out .exit)) r ⌝ }
 {
-    let done = replay::replay(file, values, book, log, series, answers);
+    let done = replay::replay(file, values, book, log, schedules, series, answers);
     let ending = done.ending;
     let desk = done.desk;
     let frame = desk.frame;
@@ -91,6 +95,7 @@ pub fn fill(input: &[u8], out: &mut [u8]) -> Filled
     let mut values = [0u64; VALUES];
     let mut book = [0u64; BOOK];
     let mut log = [0u64; LOG];
+    let mut schedules = [0u64; SCHEDULES];
     let mut series = [0u64; SERIES];
     let mut answers = [0u64; ANSWERS];
     Filled::Length(put_output(
@@ -99,6 +104,7 @@ pub fn fill(input: &[u8], out: &mut [u8]) -> Filled
         &mut values,
         &mut book,
         &mut log,
+        &mut schedules,
         &mut series,
         &mut answers,
     ))

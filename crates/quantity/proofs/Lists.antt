@@ -5,7 +5,7 @@ use mathlib.Core.Bool.{Bool, true, false, not, _&&_, _||_, and-assoc, and-true, 
 use mathlib.Core.List.{List, [], _∷_, _++_, map}
 use native.Mathlib.Numerals.{add-one}
 use native.Mathlib.Omega.{arith}
-use lib.ListN.{length, take, getD, set, length-map}
+use lib.ListN.{length, take, getD, set, replicate, length-map}
 use lib.Seq.{take-suc}
 use Rattle.quantity.specs.Lists.{all, any, fold}
 use Rattle.quantity.proofs.Tests.{and-left, and-right, and-both, or-left, or-right}
@@ -13,6 +13,12 @@ use Rattle.quantity.proofs.Tests.{and-left, and-right, and-both, or-lef
 -- an array's list is as long as the array: what is known of an array is the length of its elements' images
 pub length-of : (X Y : Type 0) (f : X → Y) (l : List X) (n : ℕ) → length (map f l) ≡ n → length l ≡ n
 length-of X Y f l n p = sym (length-map l f) ∙ p
+
+-- so many alike: each is the same, and so is what is read past them
+pub alike-at : {A : Type 0} (n i : ℕ) (x : A) → getD (replicate n x) i x ≡ x
+alike-at zero i x = refl
+alike-at (suc n) zero x = refl
+alike-at (suc n) (suc i) x = alike-at n i x
 
 module _ {A : Type 0} (f : A → Bool) where
   pub all-append : (xs ys : List A) → all f (xs ++ ys) ≡ (all f xs && all f ys)

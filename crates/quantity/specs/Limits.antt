@@ -40,6 +40,10 @@ runRows = groups + deltas
 abbrev pub bookRows : ℕ
 bookRows = runs * runRows
 
+-- document 02: "a store of 64 × Q numbers", a schedule for each group
+abbrev pub scheduleRows : ℕ
+scheduleRows = groups
+
 -- "Energies are signed whole watt-hours, each from -10^12 to 10^12."
 abbrev pub mostEnergy : ℕ
 mostEnergy = 10 ^ 12

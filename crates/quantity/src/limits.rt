@@ -31,6 +31,9 @@ pub const RUN_ROWS: u64 = GROUPS + DELTAS;
 
 pub const BOOK_ROWS: u64 = RUNS * RUN_ROWS;
 
+// A schedule for each group.
+pub const SCHEDULE_ROWS: u64 = GROUPS;
+
 // The largest energy, and the word of the smallest.
 pub const ENERGY: u64 = 1_000_000_000_000;
 

@@ -41,7 +41,7 @@ going-bounded s r h (opened G) =
 goes-bounded : (s : Stores) (r : Running) (h : List Told) (cs : List Given) → Going s r h → Bounded (plainEnd h (tells (lengthsOf s) h (map given cs)))
 unfolding plainEnd tells
 goes-bounded s r h [] G = going-bounded s r h G
-goes-bounded s r h (c ∷ cs) G = goes-bounded s (handed r (given c)) (plainNext h (toldAs (lengthsOf s) h (given c))) cs (kept s r h (given c) G)
+goes-bounded s r h (c ∷ cs) G = goes-bounded s (handed r (given c)) (plainNext h (toldAs (lengthsOf s) h (given c))) cs (kept s r h c G)
 
 pub replay-bounded : (s : Stores) (cs : List Given) → Bounded (plainEnd [] (toldOf s cs))
 replay-bounded s cs = goes-bounded s (fresh s) [] cs (unopened refl refl)

@@ -3,9 +3,9 @@ use Prim.Native.Nat.{ℕ, _+_, _*_, _≤_, _<_}
 use mathlib.Core.Path.{_≡_, refl, sym, ap, _∙_}
 use mathlib.Core.List.{List, []}
 use native.Mathlib.Omega.{arith}
-use lib.ListN.{length, getD}
+use lib.ListN.{length, getD, take, drop, replicate, length-replicate}
 use lib.Seq.{getD-take}
-use Rattle.quantity.specs.Limits.{runs, groups, runRows}
+use Rattle.quantity.specs.Limits.{runs, groups, runRows, bookRows, scheduleRows}
 use Rattle.quantity.specs.Word.{word, signed}
 use Rattle.quantity.proofs.Sums.{sum-same}
 use Rattle.book.specs.Place.{groupRow, rowStart}
@@ -17,10 +17,12 @@ use Rattle.model.specs.Plain.{Worked, workedOut, logOf, energiesOf, viewIn, fig
 use Rattle.model.specs.Series.{figureOf}
 use Rattle.model.proofs.Ends.{holds-agree}
 use Rattle.model.proofs.Invariant.{holds-view}
+use Rattle.replay.specs.Feeding.{lentOf}
 use Rattle.replay.specs.Replay.{joined, Holding, Leaving}
 use Rattle.replay.proofs.Going.{Going, unopened, opened}
-use Rattle.replay.proofs.Opened.{figuresOf, ownOf, Opened}
+use Rattle.replay.proofs.Opened.{ownOf, Opened, book-fits, schedules-fit}
 use Rattle.replay.proofs.Over.{over-split}
+use Rattle.replay.proofs.Parts.{lent-whole}
 
 -- a desk that was never opened, and its stores
 fresh-holding : (s : Stores) → Holding [] (fresh s .desk)
@@ -38,6 +40,7 @@ fresh-leaving s =
       sum = λ run q _ _ l. absurd (omega arith);
       others = refl;
       size = refl;
+      schedules = refl;
     }
 
 module _ (s : Stores) (r : Running) (h : List Told) (G : Opened s r h) where
@@ -52,7 +55,8 @@ module _ (s : Stores) (r : Running) (h : List Told) (G : Opened s r h) where
   own-number : (run k q : ℕ) → 1 ≤ run → run ≤ runs → k < runRows → q < r .desk .frame .opening .quarters → getD (r .stores .book) (rowStart (r .desk .frame .opening .quarters) run k + q) 0 ≡ getD (ownOf r .book) (rowStart (r .desk .frame .opening .quarters) run k + q) 0
   own-number run k q a b c l =
       let Q = r .desk .frame .opening .quarters in
-      sym (getD-take (figuresOf (r .desk .frame .opening)) (r .stores .book) (rowStart Q run k + q) 0 (omega (arith, row-within Q run k a b c)))
+      let all = lent-whole bookRows (length (r .stores .book)) Q (book-fits s r h G) in
+      sym (getD-take (lentOf bookRows (length (r .stores .book)) Q) (r .stores .book) (rowStart Q run k + q) 0 (rw all (omega (arith, row-within Q run k a b c))))
 
   -- it is the word of the plain desk's figure
   own-word : (run k q : ℕ) → 1 ≤ run → run ≤ runs → k < runRows → q < r .desk .frame .opening .quarters → getD (r .stores .book) (rowStart (r .desk .frame .opening .quarters) run k + q) 0 ≡ word (figure h run k q)
@@ -71,6 +75,11 @@ module _ (s : Stores) (r : Running) (h : List Told) (G : Opened s r h) where
   opened-leaving =
       let A = agrees in
       let K = G .holds .kept in
+      let Q = r .desk .frame .opening .quarters in
+      let same = ap (λ (n : Lengths). n .book) (G .lengths) in
+      let planned = ap (λ (n : Lengths). n .schedules) (G .lengths) in
+      let fits = book-fits s r h G in
+      let room = schedules-fit s r h G in
       record {
         values = G .rows .words;
         log = over-split (logNumbers (logOf h)) (s .log) (r .stores .log) (4 * r .desk .frame .used) (omega (arith, K .framed .used, K .logLong, G .holds .used)) (rw (G .holds .used) (K .logged)) (G .log);
@@ -79,8 +88,13 @@ module _ (s : Stores) (r : Running) (h : List Told) (G : Opened s r h) where
         sum =
             rw (← A .opening)
             (λ run q a b l. sum-same groups _ (λ (g : ℕ). bookFigure own run (groupRow g) q) (λ i lo hi. own-figure run (groupRow i) q a b (omega arith) l) ∙ A .sum run q a b l);
-        others = rw (← A .opening) (G .book);
-        size = ap (λ (n : Lengths). n .book) (G .lengths);
+        others = rw (← A .opening) (rw (lent-whole bookRows (length (r .stores .book)) Q fits, lent-whole bookRows (length (s .book)) Q (omega (arith, same, fits))) at (G .book));
+        size = same;
+        schedules =
+            rw (← A .opening)
+            (over-split (replicate (scheduleRows * Q) 0) (s .schedules) (r .stores .schedules) (scheduleRows * Q) room
+            (rw (lent-whole scheduleRows (length (r .stores .schedules)) Q room) at (G .none))
+            (rw (lent-whole scheduleRows (length (r .stores .schedules)) Q room, lent-whole scheduleRows (length (s .schedules)) Q (omega (arith, planned, room))) at (G .schedules)));
       }
 
 -- the desk holds what the plain desk works out

@@ -2,24 +2,20 @@
 use Prim.Native.Nat.{ℕ, _*_, _≤_}
 use mathlib.Core.Path.{_≡_, refl, sym, ap, ap₂, _∙_}
 use mathlib.Core.List.{List, []}
-use native.Mathlib.Omega.{arith}
-use borrow.Author.Tests.{leb-true, le-leb}
-use lib.Dec.{leb}
 use lib.ListN.{length, take}
-use lib.Seq.{length-take-le}
-use Rattle.quantity.specs.Limits.{bookRows}
-use Rattle.quantity.proofs.Tests.{by-test}
+use Rattle.quantity.specs.Limits.{bookRows, scheduleRows}
 use Rattle.model.specs.Agreement.{Running, Own, fresh}
 use Rattle.model.specs.Call.{Call, Stores, Lengths, lengthsOf, Told, told, telling}
-use Rattle.model.specs.Causes.{terms, takes}
+use Rattle.model.specs.Causes.{takes}
 use Rattle.model.specs.Plain.{Worked, workedOut, openingOf, plainReply}
 use Rattle.model.specs.Step.{replyOf}
 use Rattle.model.proofs.Fresh.{holding, fresh-step}
-use Rattle.model.proofs.Invariant.{book-is}
+use Rattle.model.proofs.Invariant.{book-is, schedules-is}
 use Rattle.model.proofs.Main.{one-step}
-use Rattle.replay.specs.Feeding.{lentOf, lengthsFor, toldAs}
-use Rattle.replay.specs.Play.{reach, lentTo, outcomeOf}
-use Rattle.replay.proofs.Opened.{figuresOf, ownOf, Opened}
+use Rattle.replay.specs.Feeding.{lengthsFor, toldAs}
+use Rattle.replay.specs.Play.{firstOf, quartersFor, lentTo, outcomeOf}
+use Rattle.replay.proofs.Opened.{ownOf, Opened, book-fits, schedules-fit}
+use Rattle.replay.proofs.Parts.{first-long, lent-whole}
 
 -- the desk and its stores beside the plain desk's list: before the opening, and after it
 pub data Going (s : Stores) (r : Running) (h : List Told) : Type 0 where
@@ -28,21 +24,9 @@ pub data Going (s : Stores) (r : Running) (h : List Told) : Type 0 where
 
 -- ---- what is lent
 
-module _ (r : Running) (c : Call) where
-  -- no more of the book is lent than there is
-  pub reach-fits : reach r c ≤ length (r .stores .book)
-  unfolding reach lentOf
-  reach-fits =
-      let n = bookRows * terms c .quarters (r .desk .frame .opening .quarters) in
-      by-test (λ (m : ℕ). m ≤ length (r .stores .book)) (leb n (length (r .stores .book))) n (length (r .stores .book)) (λ e. leb-true n (length (r .stores .book)) e) (λ _. omega arith)
-
-  lent-long : length (take (reach r c) (r .stores .book)) ≡ reach r c
-  lent-long = length-take-le (reach r c) (r .stores .book) reach-fits
-
-  -- the desk's figures, where Q is its own and the book has so many
-  pub reach-whole : terms c .quarters (r .desk .frame .opening .quarters) ≡ r .desk .frame .opening .quarters → figuresOf (r .desk .frame .opening) ≤ length (r .stores .book) → reach r c ≡ figuresOf (r .desk .frame .opening)
-  unfolding reach lentOf
-  reach-whole e h = rw (e, le-leb (figuresOf (r .desk .frame .opening)) (length (r .stores .book)) h)
+-- the desk's own, where so many are lent
+own-first : (k q p : ℕ) (l : List ℕ) → length (firstOf k q l) ≡ k * p → k * p ≤ length l → firstOf k q l ≡ firstOf k p l
+own-first k q p l e fits = ap (λ (n : ℕ). take n l) (sym (first-long k q l) ∙ e ∙ sym (lent-whole k (length l) p fits))
 
 module _ (s : Stores) (r : Running) (h : List Told) (c : Call) where
   -- ---- what is told
@@ -58,21 +42,25 @@ module _ (s : Stores) (r : Running) (h : List Told) (c : Call) where
 
   -- the plain desk is told the lengths that are lent
   pub told-is : Going s r h → told (lentTo r c) ≡ toldAs (lengthsOf s) h c
-  unfolding lentTo lengthsFor reach
+  unfolding lentTo lengthsFor quartersFor
   told-is G =
-      ap (λ (n : ℕ). telling (record { values = length (r .stores .values); book = n; log = length (r .stores .log) }) c) (lent-long r c)
+      let q = quartersFor r c in
+      (λ i. telling (record { values = length (r .stores .values); book = first-long bookRows q (r .stores .book) i; log = length (r .stores .log); schedules = first-long scheduleRows q (r .stores .schedules) i }) c)
       ∙ ap₂ (λ (n : Lengths) (q : ℕ). telling (lengthsFor n q c) c) (lengths-stay G) (same-quarters G)
 
   -- ---- what is answered
 
-  -- the first figures of the book, lent in its opening length, are the desk's own
+  -- the first numbers of book and schedules, lent in their opening lengths, are the desk's own
   lent-own : Opened s r h → Own (r .desk .frame .opening) (takes c) (ownOf r) (lentTo r c .stores)
   unfolding lentTo
   lent-own G =
+      let o = r .desk .frame .opening in
+      let ok = G .holds .kept .framed .opening in
       record {
         values = λ e t z. refl;
-        book = λ e t z. ap (λ (n : ℕ). take n (r .stores .book)) (sym (lent-long r c) ∙ z ∙ book-is (r .desk .frame .opening) (G .holds .kept .framed .opening));
+        book = λ e t z. own-first bookRows (quartersFor r c) (o .quarters) (r .stores .book) (z ∙ book-is o ok) (book-fits s r h G);
         log = λ e t z. refl;
+        schedules = λ e t z. own-first scheduleRows (quartersFor r c) (o .quarters) (r .stores .schedules) (z ∙ schedules-is o ok) (schedules-fit s r h G);
       }
 
   lent-reply : Going s r h → replyOf (outcomeOf r c) ≡ plainReply h (told (lentTo r c))

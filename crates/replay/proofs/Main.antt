@@ -48,7 +48,7 @@ module _ (s : Stores) where
   goes p h [] G = (G, refl)
   goes p h (c ∷ cs) G =
       let next = plainNext h (toldAs (lengthsOf s) h (given c)) in
-      let rest = goes (played p c) next cs (kept s (p .running) h (given c) G) in
+      let rest = goes (played p c) next cs (kept s (p .running) h c G) in
       let one = same-reply s (p .running) h (given c) G in
       (rest .0, rest .1 ∙ ap (λ (x : Reply). sets (set (p .answers) (p .answered) (answerNumber (x .answer))) (suc (p .answered)) (numbers next cs)) one)
 

@@ -5,10 +5,11 @@ use mathlib.Core.List.{List, []}
 use Rattle.state.specs.Desk.{isOpen, freshDesk}
 use Rattle.state.specs.Valid.{openingOk, frameOk, validDesk}
 use Rattle.model.specs.Agreement.{Running, fresh}
-use Rattle.model.specs.Call.{Call, Stores, lengthsOf, Told}
+use Rattle.model.specs.Call.{Stores, lengthsOf, Told}
 use Rattle.model.specs.Plain.{plainNext}
 use Rattle.model.proofs.Invariant.{holds-open, holds-valid}
 use Rattle.replay.specs.Feeding.{toldAs}
+use Rattle.replay.specs.Given.{Given, given}
 use Rattle.replay.specs.Play.{handed}
 use Rattle.replay.proofs.Going.{Going, unopened, opened}
 use Rattle.replay.proofs.Opened.{ownOf}
@@ -22,8 +23,8 @@ pub reached-first : (s : Stores) → Reached s (fresh s)
 reached-first s = reached [] (unopened refl refl)
 
 module _ (s : Stores) (r : Running) where
-  pub reached-next : (c : Call) → Reached s r → Reached s (handed r c)
-  reached-next c (reached h G) = reached (plainNext h (toldAs (lengthsOf s) h c)) (kept s r h c G)
+  pub reached-next : (c : Given) → Reached s r → Reached s (handed r (given c))
+  reached-next c (reached h G) = reached (plainNext h (toldAs (lengthsOf s) h (given c))) (kept s r h c G)
 
   valid-open : (h : List Told) → Going s r h → validDesk (r .desk) ≡ isOpen (r .desk .frame .opening)
   unfolding validDesk frameOk openingOk

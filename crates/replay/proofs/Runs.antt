@@ -52,6 +52,7 @@ pub record Sized (p q : Playing) : Type 0 where
   pub values : length (q .running .stores .values) ≡ length (p .running .stores .values)
   pub book : length (q .running .stores .book) ≡ length (p .running .stores .book)
   pub log : length (q .running .stores .log) ≡ length (p .running .stores .log)
+  pub schedules : length (q .running .stores .schedules) ≡ length (p .running .stores .schedules)
   pub series : length (q .series) ≡ length (p .series)
   pub answers : length (q .answers) ≡ length (p .answers)
 
@@ -72,7 +73,7 @@ going s p e r =
     record {
       inside = omega arith;
       few = omega arith;
-      sized = record { values = refl; book = refl; log = refl; series = refl; answers = refl };
+      sized = record { values = refl; book = refl; log = refl; schedules = refl; series = refl; answers = refl };
       reached = r;
       same = rw z;
       ending = rw z;
@@ -105,7 +106,7 @@ module _ {s : List ℕ} {start p : Playing} {at : ℕ} (w : Going s start p at) 
   goes : {q : Playing} {n m : ℕ} {groups : List ℕ} {d : DeskCall} (t : Stepped s at (length (start .series)) d n m groups) → p .answered < length (start .answers) →
       q ≡ played p (record { call = d; groups = groupsOf (padded (t .call .fields)); energies = t .call .energies }) → Sized p q → Going s start q m
   unfolding play played givenIn
-  goes {q} {m = m} t h e z =
+  goes {q} {m = m} {d = d} t h e z =
       let room = length (start .series) in
       let most = length (start .answers) in
       let rest = callsIn room (drop m s) in
@@ -117,10 +118,11 @@ module _ {s : List ℕ} {start p : Playing} {at : ℕ} (w : Going s start p at) 
           values = z .values ∙ w .sized .values;
           book = z .book ∙ w .sized .book;
           log = z .log ∙ w .sized .log;
+          schedules = z .schedules ∙ w .sized .schedules;
           series = z .series ∙ w .sized .series;
           answers = z .answers ∙ w .sized .answers;
         };
-        reached = rw e (reached-next (start .running .stores) (p .running) _ (w .reached));
+        reached = rw e (reached-next (start .running .stores) (p .running) (record { call = d; groups = groupsOf (padded (t .call .fields)); energies = t .call .energies }) (w .reached));
         same = w .same ∙ rw (t .calls, t .named, less, e);
         ending = w .ending ∙ rw (t .calls, less, e) (ending-next (length s) (most - suc (p .answered)) (t .call) (rest .calls) (rest .left) (rest .ending));
       }
@@ -141,11 +143,11 @@ module _ {s : List ℕ} {start p : Playing} {at : ℕ} (w : Going s start p at) 
       (omega (arith, t .count))
 
   -- it is answered
-  pub again : {n m x : ℕ} {call : DeskCall} {groups series : List ℕ} {answer : Answer} {desk : Desk} {values book log : List ℕ} → p .answered < length (start .answers) →
+  pub again : {n m x : ℕ} {call : DeskCall} {groups series : List ℕ} {answer : Answer} {desk : Desk} {values book log schedules : List ℕ} → p .answered < length (start .answers) →
       readAt s at (length (p .series)) .step ≡ CallRead call n m → groups ≡ readAt s at (length (p .series)) .groups → series ≡ seriesAfter s at (p .series) →
-      Handed (p .running) (asked call groups (map signed (take (n - 0) series))) answer (runningOf desk (storesOf values book log)) → x ≡ answerNumber answer →
-      Sized p (playingOf desk (storesOf values book log) series (set (p .answers) (p .answered) x) (p .answered + 1)) →
-      Going s start (playingOf desk (storesOf values book log) series (set (p .answers) (p .answered) x) (p .answered + 1)) m
+      Handed (p .running) (asked call groups (map signed (take (n - 0) series))) answer (runningOf desk (storesOf values book log schedules)) → x ≡ answerNumber answer →
+      Sized p (playingOf desk (storesOf values book log schedules) series (set (p .answers) (p .answered) x) (p .answered + 1)) →
+      Going s start (playingOf desk (storesOf values book log schedules) series (set (p .answers) (p .answered) x) (p .answered + 1)) m
   unfolding played
   again {call = call} h e f g v x z =
       let t = stepped e in

@@ -5,8 +5,8 @@ use mathlib.Core.Bool.{cond}
 use mathlib.Core.List.{List, [], _∷_, _++_, map}
 use lib.Dec.{leb, ltb}
 use lib.IntN.{ℤ}
-use lib.ListN.{length, getD, take, drop}
-use Rattle.quantity.specs.Limits.{runs, groups as groupCount, runRows, bookRows}
+use lib.ListN.{length, getD, take, drop, replicate}
+use Rattle.quantity.specs.Limits.{runs, groups as groupCount, runRows, bookRows, scheduleRows}
 use Rattle.quantity.specs.Sum.{sumTo}
 use Rattle.quantity.specs.Word.{word, signed}
 use Rattle.book.specs.Place.{groupRow, rowStart}
@@ -63,8 +63,9 @@ pub record Holding (h : List Told) (d : Desk) : Type 0 where
   pub view : viewOf d ≡ viewIn h
 
 -- the stores after the calls; s are the stores as they were lent at first. Used rows of values are the submissions' words; the book has the words of
--- the plain desk's figures in its first 162 × Q places, which are read as these figures, and with them the outside exchange as their sum; all else
--- is as it was, and so is all of the book where the desk was never opened (Q is 0 then).
+-- the plain desk's figures in its first 162 × Q places, which are read as these figures, and with them the outside exchange as their sum; the first
+-- 64 × Q schedules are 0, since message files carry no lodgings; all else is as it was, and so are book and schedules where the desk was never opened
+-- (Q is 0 then).
 pub record Leaving (h : List Told) (s after : Stores) : Type 0 where
   pub values : after .values ≡ over (map word (joined (energiesOf h))) (s .values)
   pub log : after .log ≡ over (logNumbers (logOf h)) (s .log)
@@ -73,6 +74,7 @@ pub record Leaving (h : List Told) (s after : Stores) : Type 0 where
   pub sum : (run q : ℕ) → 1 ≤ run → run ≤ runs → q < openingOf h .quarters → sumTo groupCount (λ (g : ℕ). signed (getD (after .book) (rowStart (openingOf h .quarters) run (groupRow g) + q) 0)) ≡ outside h run q
   pub others : drop (bookRows * openingOf h .quarters) (after .book) ≡ drop (bookRows * openingOf h .quarters) (s .book)
   pub size : length (after .book) ≡ length (s .book)
+  pub schedules : after .schedules ≡ over (replicate (scheduleRows * openingOf h .quarters) 0) (s .schedules)
 
 -- what calls give and leave, in the answers, in the series buffer and in the stores
 pub record Gives (cs : List Given) (s : Stores) (buffer output : List ℕ) (after : Stores) (buffer′ output′ : List ℕ) : Type 0 where

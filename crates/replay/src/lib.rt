@@ -25,16 +25,18 @@ pub struct Replayed {
     pub desk: Desk,
 }
 
-// A file on a fresh desk, whatever the stores hold. Of the book the first 162 × Q figures are lent, by the opening's Q.
+// A file on a fresh desk, whatever the stores hold. Of the book the first 162 × Q figures are lent and
+// of the schedules the first 64 × Q numbers, by the opening's Q.
 pub fn replay(
     file: &[u8],
     values: &mut [u64],
     book: &mut [u64],
     log: &mut [u64],
+    schedules: &mut [u64],
     series: &mut [u64],
     answers: &mut [u64],
 ) -> Replayed
-    ensures { λ r. ⌜ Replays (now (file .entry)) (storesOf (now (values .entry)) (now (book .entry)) (now (log .entry))) (now (series .entry)) (now (answers .entry)) r (storesOf (now (values .exit)) (now (book .exit)) (now (log .exit))) (now (series .exit)) (now (answers .exit)) ⌝ }
+    ensures { λ r. ⌜ Replays (now (file .entry)) (storesOf (now (values .entry)) (now (book .entry)) (now (log .entry)) (now (schedules .entry))) (now (series .entry)) (now (answers .entry)) r (storesOf (now (values .exit)) (now (book .exit)) (now (log .exit)) (now (schedules .exit))) (now (series .exit)) (now (answers .exit)) ⌝ }
 {
-    run_file(file, values, book, log, series, answers)
+    run_file(file, values, book, log, schedules, series, answers)
 }

@@ -51,10 +51,11 @@ pub fn run_file(
     values: &mut [u64],
     book: &mut [u64],
     log: &mut [u64],
+    schedules: &mut [u64],
     series: &mut [u64],
     answers: &mut [u64],
 ) -> Replayed
-    ensures { λ r. ⌜ Ran (now (file .entry)) (starting (storesOf (now (values .entry)) (now (book .entry)) (now (log .entry))) (now (series .entry)) (now (answers .entry))) (playingOf (r .desk) (storesOf (now (values .exit)) (now (book .exit)) (now (log .exit))) (now (series .exit)) (now (answers .exit)) (r .answered)) (r .ending) ⌝ }
+    ensures { λ r. ⌜ Ran (now (file .entry)) (starting (storesOf (now (values .entry)) (now (book .entry)) (now (log .entry)) (now (schedules .entry))) (now (series .entry)) (now (answers .entry))) (playingOf (r .desk) (storesOf (now (values .exit)) (now (book .exit)) (now (log .exit)) (now (schedules .exit))) (now (series .exit)) (now (answers .exit)) (r .answered)) (r .ending) ⌝ }
 {
     let mut desk = fresh_desk();
     let mut at = 0;
@@ -72,7 +73,17 @@ pub fn run_file(
         };
         let place = place_in(call);
         let p = desk.points[place];
-        let out = lend_call(desk, p, call, groups, &series[0..count], values, book, log);
+        let out = lend_call(
+            desk,
+            p,
+            call,
+            groups,
+            &series[0..count],
+            values,
+            book,
+            log,
+            schedules,
+        );
         let answer = out.answer;
         answers[answered] = number_of(answer);
         let effect = out.effect;

@@ -61,13 +61,15 @@ sound d v =
     let q = and-left (quartersOk (o .quarters)) _ f0 in
     let o1 = and-right (quartersOk (o .quarters)) _ f0 in
     let o2 = and-right (deadlinesOk (o .first .0) (o .clearing .0) (o .correction .0)) _ o1 in
+    let o3 = and-right (eqb (o .book) (162 * o .quarters)) _ o2 in
     let low = within-low 1 2980 (o .quarters) q in
     record {
       quarters = low;
       most = within-high 1 2980 (o .quarters) q;
       deadlines = and-left (deadlinesOk (o .first .0) (o .clearing .0) (o .correction .0)) _ o1;
       book = eqb-true (o .book) (162 * o .quarters) (and-left (eqb (o .book) (162 * o .quarters)) _ o2);
-      log = eqb-true (o .log % 4) 0 (and-right (eqb (o .book) (162 * o .quarters)) _ o2);
+      log = eqb-true (o .log % 4) 0 (and-left (eqb (o .log % 4) 0) _ o3);
+      schedules = eqb-true (o .schedules) (64 * o .quarters) (and-right (eqb (o .log % 4) 0) _ o3);
       day = leb-true (d .frame .day .0) 400 (and-left (dayOk (d .frame .day .0)) _ f1);
       groups = and-left (all groupOk (d .frame .groups)) _ f2;
       count = leb-true (d .frame .count) 512 (and-left (leb (d .frame .count) 512) _ f3);
@@ -83,7 +85,7 @@ unfolding validDesk frameOk openingOk
 whole d s =
     let o = d .frame .opening in
     let q = and-both _ _ (le-leb 1 (o .quarters) (s .quarters)) (le-leb (o .quarters) 2980 (s .most)) in
-    let f0 = and-both _ _ q (and-both _ _ (s .deadlines) (and-both _ _ (eq-eqb _ _ (s .book)) (eq-eqb _ _ (s .log)))) in
+    let f0 = and-both _ _ q (and-both _ _ (s .deadlines) (and-both _ _ (eq-eqb _ _ (s .book)) (and-both _ _ (eq-eqb _ _ (s .log)) (eq-eqb _ _ (s .schedules))))) in
     let n = le-leb (rowsUsed (d .frame)) (rowsIn o) (fit-rows o (s .quarters) (rowsUsed (d .frame)) (s .rows)) in
     let f3 = and-both _ _ (le-leb (d .frame .count) 512 (s .count)) (and-both _ _ n (le-leb (d .frame .used) (logRowsIn o) (omega (arith, s .used)))) in
     let f = and-both _ _ f0 (and-both _ _ (le-leb (d .frame .day .0) 400 (s .day)) (and-both _ _ (s .groups) f3)) in

@@ -75,7 +75,8 @@ means-opening o =
     means-and (quartersOk (o .quarters)) _ (means-quarters (o .quarters))
     (λ _. means-and (deadlinesOk (o .first .0) (o .clearing .0) (o .correction .0)) _ (means-deadlines (o .first .0) (o .clearing .0) (o .correction .0))
     (λ _. means-and (eqb (o .book) (162 * o .quarters)) _ (means-eq (o .book) (162 * o .quarters))
-    (λ _. means-eq (o .log % 4) 0)))
+    (λ _. means-and (eqb (o .log % 4) 0) _ (means-eq (o .log % 4) 0)
+    (λ _. means-eq (o .schedules) (64 * o .quarters)))))
 
 -- a field of a point record
 means-state : (s : PointState) → Means (stateOk s) (StateIn s)

@@ -41,6 +41,7 @@ unopened =
       values = 0;
       book = 0;
       log = 0;
+      schedules = 0;
     }
 
 -- the desk before any call

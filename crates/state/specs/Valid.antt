@@ -4,7 +4,7 @@ use Prim.Native.Nat.{ℕ, _*_, _%_, _≤_}
 use mathlib.Core.Path.{_≡_}
 use mathlib.Core.Bool.{Bool, true, _&&_}
 use lib.Dec.{leb, ltb, eqb}
-use Rattle.quantity.specs.Limits.{mostQuarters, areas, groups as groupCount, lastDay, bookRows, versions, quartersOk, dayOk, deadlinesOk, versionOk, pointOk, groupOk}
+use Rattle.quantity.specs.Limits.{mostQuarters, areas, groups as groupCount, lastDay, bookRows, scheduleRows, versions, quartersOk, dayOk, deadlinesOk, versionOk, pointOk, groupOk}
 use Rattle.quantity.specs.Lists.{all}
 use Rattle.state.specs.Desk.{rowsIn, logRowsIn, versionsIn, rowsUsed}
 use Rattle.state.specs.Point.{seriesOk}
@@ -16,13 +16,15 @@ use Rattle.state.specs.declared.PointState.the-variants.{Free, Active}
 use Rattle.state.specs.declared.PointRecord.{PointRecord}
 use Rattle.state.specs.declared.VersionRecord.{VersionRecord}
 
--- "Lent stores, lengths fixed at opening: values (any length), book (162 × Q), log (a multiple of 4)."
+-- "Lent stores, lengths fixed at opening: values (any length), book (162 × Q), log (a multiple of 4)."; document 02: "Schedules are lent as a store
+-- of 64 × Q numbers .., fixed at opening"
 unfoldable pub openingOk : Opening → Bool
 openingOk o =
     quartersOk (o .quarters)
     && (deadlinesOk (o .first .0) (o .clearing .0) (o .correction .0)
     && (eqb (o .book) (bookRows * o .quarters)
-    && eqb (o .log % 4) 0))
+    && (eqb (o .log % 4) 0
+    && eqb (o .schedules) (scheduleRows * o .quarters))))
 
 -- a field of a point record
 abbrev pub stateOk : PointState → Bool
@@ -65,6 +67,7 @@ pub record Sound (d : Desk) : Type 0 where
   pub deadlines : deadlinesOk (d .frame .opening .first .0) (d .frame .opening .clearing .0) (d .frame .opening .correction .0) ≡ true
   pub book : d .frame .opening .book ≡ bookRows * d .frame .opening .quarters
   pub log : d .frame .opening .log % 4 ≡ 0
+  pub schedules : d .frame .opening .schedules ≡ scheduleRows * d .frame .opening .quarters
   pub day : d .frame .day .0 ≤ lastDay
   pub groups : all groupOk (d .frame .groups) ≡ true
   pub count : d .frame .count ≤ versions

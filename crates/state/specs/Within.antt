@@ -22,13 +22,14 @@ InTable k a b =
     ⊎ (((k ≡ 4) × ((a ≡ 0) × Between 1 64 b))
     ⊎ ((k ≡ 5) × (Between 1 16 a × (b ≡ 0))))))
 
--- "Q from 1 to 2,980"; "1 ≤ F < C < K ≤ 399"; "book (162 × Q), log (a multiple of 4)"
+-- "Q from 1 to 2,980"; "1 ≤ F < C < K ≤ 399"; "book (162 × Q), log (a multiple of 4)"; document 02: schedules, "64 × Q numbers"
 abbrev pub OpeningIn : Opening → Type 0
 OpeningIn o =
     Between 1 2980 (o .quarters)
     × (((1 ≤ o .first .0) × ((o .first .0 < o .clearing .0) × ((o .clearing .0 < o .correction .0) × (o .correction .0 ≤ 399))))
     × ((o .book ≡ 162 * o .quarters)
-    × (o .log % 4 ≡ 0)))
+    × ((o .log % 4 ≡ 0)
+    × (o .schedules ≡ 64 * o .quarters))))
 
 -- "a point is either free or active since a day, with its kind, area and partner"
 abbrev pub StateIn : PointState → Type 0

@@ -92,6 +92,15 @@ pub fn put_group(f: Frame, area: u64, group: u64, day: Day) -> Effect
     unchanged(frame)
 }
 
+// The day alone.
+pub fn put_day(f: Frame, day: Day) -> Effect
+    ensures { λ r. ⌜ ((d : Desk) → d .frame ≡ f → Fits d r × (changedBy d r ≡ deskWith d (theDay (day .0)))) ⌝ }
+{
+    let mut frame = f;
+    frame.day = day;
+    unchanged(frame)
+}
+
 // The run's flag is set, and its versions are settled.
 pub fn settle_run(f: Frame, run: u64, day: Day) -> Effect
     ensures { λ r. ⌜ ((d : Desk) → d .frame ≡ f → validDesk d ≡ true → Fits d r × (changedBy d r ≡ deskWith (deskWith (settledDesk d run) (theSettled (flagged run (d .frame .settled)))) (theDay (day .0)))) ⌝ }

@@ -65,6 +65,7 @@ pub fn fresh_desk() -> Desk
         values: 0,
         book: 0,
         log: 0,
+        schedules: 0,
     };
     opened(opening, [0; DELTAS as usize])
 }

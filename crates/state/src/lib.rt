@@ -63,7 +63,7 @@ pub struct VersionRecord {
     pub status: Status,
 }
 
-// What the opening fixes: Q (0: not open), the deadlines F, C and K, the lengths of the three stores.
+// What the opening fixes: Q (0: not open), the deadlines F, C and K, the lengths of the four stores.
 pub struct Opening {
     pub quarters: u64,
     pub first: Day,
@@ -72,6 +72,7 @@ pub struct Opening {
     pub values: u64,
     pub book: u64,
     pub log: u64,
+    pub schedules: u64,
 }
 
 // A flag for each run.

@@ -1,21 +1,19 @@
 -- Laws of a submission: what it makes of the selections, and what one that the table does not refuse has passed. Assumes nothing.
 use mathlib.Core.Path.{_≡_, refl, sym, ap, _∙_}
 use mathlib.Core.Bool.{true, cond}
-use mathlib.Core.List.{List, [], _∷_, _++_, append-nil, map}
-use Prim.Native.Nat.{ℕ, suc, _+_, _*_, _^_, _≤_, _<_}
+use mathlib.Core.List.{List, [], _∷_, map}
+use Prim.Native.Nat.{ℕ, _+_, _*_, _≤_, _<_}
 use native.Mathlib.Omega.{arith}
 use borrow.Author.Tests.{eq-eqb, eqb-true, lt-ltb, ltb-false, leb-false, not-false}
 use lib.Dec.{leb, eqb}
-use lib.ListN.{length, getD, drop, drop-of-length-le, length-map}
-use lib.Seq.{take-all, length-take-le}
+use lib.ListN.{length, length-map}
+use lib.Seq.{length-take-le}
 use Rattle.quantity.specs.Limits.{versions, versionOk, pointOk, dayOk}
 use Rattle.quantity.specs.Lists.{all}
-use Rattle.quantity.specs.Word.{word, signed}
+use Rattle.quantity.specs.Word.{signed}
 use Rattle.quantity.specs.declared.Version.{Version}
 use Rattle.quantity.proofs.Lists.{all-append}
 use Rattle.quantity.proofs.Tests.{and-left, and-right, or-left, or-right}
-use Rattle.quantity.proofs.Words.{word-signed}
-use Rattle.book.specs.Row.{part}
 use Rattle.state.specs.Change.{submitted}
 use Rattle.state.specs.Point.{pointAt}
 use Rattle.state.specs.Desk.{versionsIn, rowsIn}
@@ -29,6 +27,7 @@ use Rattle.state.proofs.Picks.{best-last}
 use Rattle.checks.specs.Lent.{lengthsIn, sizesOf}
 use Rattle.checks.specs.Survey.{Surveyed}
 use Rattle.checks.specs.declared.Survey.{Survey}
+use Rattle.checks.proofs.Deciding.{noLengths}
 use Rattle.checks.proofs.Lengths.{lengths}
 use Rattle.model.specs.Call.{submits}
 use Rattle.model.specs.Causes.{rules, firstOf, logFull}
@@ -55,19 +54,6 @@ module _ (d : Desk) (p day : ℕ) (version : Version) (s : Survey) (few : d .fra
   pub turned : {x : ℕ} → Surveyed p x (versionsIn d) s → turnBy (d .frame) version day s ≡ turnOf (versionsIn d) (submittedIn d p (version .0) day) p
   turned f = λ i. record { old1 = f .first i; new1 = one-run 1 (s .first) (f .first) i; old2 = f .second i; new2 = one-run 2 (s .second) (f .second) i }
 
--- a series that fills its part
-pub filled : {A : Type 0} (series row : List A) (q : ℕ) → length series ≡ q → length row ≡ q → part series 0 q ++ drop q row ≡ series
-unfolding part
-filled series row q h k = rw (take-all q series (omega arith), drop-of-length-le row {i = q} (omega arith), append-nil)
-
--- the words of what a series is read as
-pub words-signed : (l : List ℕ) → ((i : ℕ) → getD l i 0 < 2 ^ 64) → map word (map signed l) ≡ l
-words-signed [] h = refl
-words-signed (x ∷ l) h =
-    let e : word (signed x) ≡ x = word-signed x (h 0) in
-    let r : map word (map signed l) ≡ l = words-signed l (λ i. h (suc i)) in
-    cc
-
 -- the versions with a submission's are within the limits
 pub submitted-ok : (d : Desk) (p x day : ℕ) → Sound d → pointOk p ≡ true → versionOk x ≡ true → d .frame .count < rowsIn (d .frame .opening)
     → all (versionRecordOk (rowsIn (d .frame .opening))) (submittedIn d p x day) ≡ true
@@ -78,20 +64,20 @@ submitted-ok d p x day s hp hx hr =
 
 module _ (d : Desk) (p x day : ℕ) (series values book log : List ℕ) (t : Turn) (o : Due) (s : Sound d) (table : length (d .versions) ≡ versions)
     (T : t ≡ turnOf (versionsIn d) (submittedIn d p x day) p) (D : o ≡ due (versionsIn d) (submittedIn d p x day) p day)
-    (fine : firstOf (rules (viewOf d) (lengthsIn (sizesOf values book log)) (submits p x day (map signed series))) ≡ Fine) where
+    (fine : firstOf (rules (viewOf d) (lengthsIn noLengths (sizesOf values book log)) (submits p x day (map signed series))) ≡ Fine) where
   pub submit-allowed : {here : PointState} → here ≡ pointAt (d .points) p → Granted d here p x day series values book log t o
   submit-allowed known =
-      let P = passed (rules (viewOf d) (lengthsIn (sizesOf values book log)) (submits p x day (map signed series))) fine in
-      let n = lengths (sizesOf values book log) (d .frame .opening) (past 2 (rules (viewOf d) (lengthsIn (sizesOf values book log)) (submits p x day (map signed series))) P) in
-      let fields = not-false _ (past 3 (rules (viewOf d) (lengthsIn (sizesOf values book log)) (submits p x day (map signed series))) P) in
+      let P = passed (rules (viewOf d) (lengthsIn noLengths (sizesOf values book log)) (submits p x day (map signed series))) fine in
+      let n = lengths noLengths (sizesOf values book log) (d .frame .opening) (past 2 (rules (viewOf d) (lengthsIn noLengths (sizesOf values book log)) (submits p x day (map signed series))) P) in
+      let fields = not-false _ (past 3 (rules (viewOf d) (lengthsIn noLengths (sizesOf values book log)) (submits p x day (map signed series))) P) in
       let f1 = and-right (pointOk p) _ fields in
       let f2 = and-right (versionOk x) _ f1 in
       let f3 = and-right (dayOk day) _ f2 in
       let count = eqb-true (length (map signed series)) (d .frame .opening .quarters) (and-left (eqb (length (map signed series)) (d .frame .opening .quarters)) _ f3) in
-      let rows = past 16 (rules (viewOf d) (lengthsIn (sizesOf values book log)) (submits p x day (map signed series))) P in
+      let rows = past 16 (rules (viewOf d) (lengthsIn noLengths (sizesOf values book log)) (submits p x day (map signed series))) P in
       let m = length-held d (s .count) table in
       let free = ltb-false (d .frame .opening .values) ((length (versionsIn d) + 1) * d .frame .opening .quarters) (or-right (leb versions (length (versionsIn d))) _ rows) in
-      let full = past 17 (rules (viewOf d) (lengthsIn (sizesOf values book log)) (submits p x day (map signed series))) P in
+      let full = past 17 (rules (viewOf d) (lengthsIn noLengths (sizesOf values book log)) (submits p x day (map signed series))) P in
       record {
         sound = s;
         here = known;

@@ -2,7 +2,7 @@
 use crate::conditions::no_row;
 use crate::conditions::submit_ok;
 use crate::conditions::too_early;
-use amend::copies::copy_row;
+use amend::copies::put_series;
 use amend::log::due_by;
 use amend::turns::follow;
 use checks::Decided;
@@ -47,11 +47,10 @@ ghost use Prim.Native.Nat.{_+_, _*_, _≤_};
 ghost use lib.ListN.{length};
 ghost use Rattle.quantity.specs.Limits.{versions};
 ghost use Rattle.quantity.specs.Word.{signed};
-ghost use Rattle.book.specs.Row.{splice};
 ghost use Rattle.state.specs.Desk.{versionsIn};
 ghost use Rattle.state.specs.Valid.{Sound};
 ghost use Rattle.state.specs.Effect.{changedBy, Fits};
-ghost use Rattle.model.specs.Call.{submits};
+ghost use Rattle.model.specs.Call.{Stores, Lengths, submits};
 ghost use Rattle.model.specs.Causes.{rules, firstOf, askingVersions};
 ghost use Rattle.model.specs.Log.{due as dueOf};
 ghost use Rattle.model.specs.Step.{granting, versionBy};
@@ -59,7 +58,7 @@ ghost use Rattle.model.specs.View.{viewOf};
 ghost use Rattle.model.specs.declared.Answer.the-variants.{Accepted};
 ghost use Rattle.checks.specs.Lent.{lengthsIn};
 ghost use Rattle.checks.specs.Look.{Looked};
-ghost use Rattle.checks.specs.Stepped.{storesOf, IsStep, Stepped};
+ghost use Rattle.checks.specs.Stepped.{storing, IsStep, Stepped};
 ghost use Rattle.submit.specs.Submit.{turnBy, submittedIn, Granted};
 
 // What a submission makes of its point's selections: the version that it makes stands behind those held, with the next row of values.
@@ -103,7 +102,7 @@ fn submit_ruling(
     requires { ⌜ Looked d (askingVersions (point .0) (version .0)) l ⌝ }
     requires { ⌜ length (versionsIn d) ≡ d .frame .count ⌝ }
     requires { ⌜ due ≡ dueOf (versionsIn d) (submittedIn d (point .0) (version .0) (day .0)) (point .0) (day .0) ⌝ }
-    ensures { λ r. ⌜ r ≡ firstOf (rules (viewOf d) (lengthsIn n) (submits (point .0) (version .0) (day .0) (map signed (now (series .entry))))) ⌝ }
+    ensures { λ r. ⌜ ((m : Lengths) → r ≡ firstOf (rules (viewOf d) (lengthsIn m n) (submits (point .0) (version .0) (day .0) (map signed (now (series .entry)))))) ⌝ }
 {
     let f = d.frame;
     let o = f.opening;
@@ -129,15 +128,6 @@ fn submit_ruling(
     or_if(k9, log_full(f.used, o.log, due), Cause::NoLogRow)
 }
 
-// The series into its row of the values.
-fn store(values: &mut [u64], start: usize, q: usize, series: &[u64])
-    requires { ⌜ (start + q ≤ length (now values)) × (length (now series) ≡ q) ⌝ }
-    ensures { λ _. ⌜ now (values .exit) ≡ splice (now (values .entry)) start q (now (series .entry)) ⌝ }
-{
-    let end = start + q;
-    copy_row(series, 0, q, &mut values[start..end]);
-}
-
 // The values, the book and the log after a submission that is not refused. The effect has its version, the log rows used and its day.
 fn submit_granted(
     d: Desk,
@@ -153,14 +143,14 @@ fn submit_granted(
 ) -> Effect
     requires { ⌜ v ≡ versionBy d (v .point .0) (v .version .0) (day .0) ⌝ }
     requires { ⌜ Granted d here (v .point .0) (v .version .0) (day .0) (now series) (now values) (now book) (now log) turn due ⌝ }
-    ensures { λ r. ⌜ Fits d r × IsStep (granting d (storesOf (now (values .entry)) (now (book .entry)) (now (log .entry))) (submits (v .point .0) (v .version .0) (day .0) (map signed (now (series .entry))))) Accepted (changedBy d r) (now (values .exit)) (now (book .exit)) (now (log .exit)) ⌝ }
+    ensures { λ r. ⌜ Fits d r × ((s : Stores) → IsStep (granting d (storing s (now (values .entry)) (now (book .entry)) (now (log .entry))) (submits (v .point .0) (v .version .0) (day .0) (map signed (now (series .entry))))) Accepted (changedBy d r) (now (values .exit)) (now (book .exit)) (now (log .exit))) ⌝ }
 {
     let f = d.frame;
     let opening = f.opening;
     let q = opening.quarters as usize;
     let at = f.count;
     let start = at as usize * q;
-    store(values, start, q, series);
+    put_series(values, start, q, series);
     let used = follow(f, here, turn, due, values, book, log);
     put_version(f, at, v, at + 1, used, day)
 }

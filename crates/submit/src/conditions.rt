@@ -1,12 +1,11 @@
 // The tests of the table that submit alone makes.
 use checks::points::since_of;
+use checks::series::energies_ok;
 use quantity::Day;
 use quantity::PointNo;
 use quantity::Version;
-use quantity::WattHours;
 use quantity::limits::VERSIONS;
 use quantity::limits::day_ok;
-use quantity::limits::energy_ok;
 use quantity::limits::point_ok;
 use quantity::limits::version_ok;
 use state::PointState;
@@ -15,24 +14,10 @@ ghost use mathlib.Core.Bool.{_||_};
 ghost use mathlib.Core.List.{map};
 ghost use Prim.Native.Nat.{_+_, _*_, _≤_};
 ghost use lib.Dec.{leb, ltb};
-ghost use Rattle.quantity.specs.Limits.{versions, mostQuarters, energyOk};
-ghost use Rattle.quantity.specs.Lists.{all};
+ghost use Rattle.quantity.specs.Limits.{versions, mostQuarters};
 ghost use Rattle.quantity.specs.Word.{signed};
 ghost use Rattle.state.specs.Point.{sinceOf};
 ghost use Rattle.model.specs.Causes.{submitOk};
-
-// Every energy is in its range.
-pub fn energies_ok(series: &[u64]) -> bool
-    ensures { λ r. ⌜ r ≡ all energyOk (map signed (now (series .entry))) ⌝ }
-{
-    let mut ok = true;
-    let mut i = 0;
-    while i < series.len() {
-        ok = ok & energy_ok(WattHours(series[i]));
-        i += 1;
-    }
-    ok
-}
 
 // A submission's fields, the length of its series and its energies; cause 3 where they do not fit.
 pub fn submit_ok(point: PointNo, version: Version, day: Day, q: u64, series: &[u64]) -> bool

@@ -1,4 +1,5 @@
-// For tests and benchmarks only: the row adder, and scripts of calls with damage to the state.
+// For tests and benchmarks only: the row adder, and scripts of calls, with damage to the state and the stores.
+mod record;
 mod row;
 mod script;
 mod via;
@@ -16,6 +17,7 @@ pub struct Room {
     pub values: usize,
     pub book: usize,
     pub log: usize,
+    pub schedules: usize,
     pub out: usize,
     pub next: usize,
 }

@@ -1,7 +1,20 @@
-// A script of the nine calls on a fresh desk, each with its own lengths of the stores; and damage to the desk's fields.
+// A script of the eleven calls on a fresh desk, each with its own lengths of the stores; damage to the desk's fields, and writing in a store.
 use crate::Ran;
 use crate::Room;
+use crate::record::DAMAGE;
+use crate::record::LODGE;
+use crate::record::LODGED;
+use crate::record::REPORT;
+use crate::record::SHOW;
+use crate::record::STATUS;
+use crate::record::SUBMITTED;
+use crate::record::WRITE;
+use crate::record::behind;
+use crate::record::fields_in;
+use crate::record::kind_in_file;
+use crate::record::record_length;
 use crate::via::via_apply;
+use crate::via::via_lodge;
 use amend::copies::copy_row;
 use calls::show::show_number;
 use calls::show::show_row;
@@ -10,86 +23,22 @@ use checks::Outcome;
 use checks::numbers::cause_number;
 use damage::damaged;
 use message::Named;
-use message::call::ASSIGNMENT;
-use message::call::MOST_FIELDS;
-use message::call::SETTLEMENT;
 use message::call::call_of;
 use message::call::groups_of;
 use model::Answer;
+use quantity::Day;
 use quantity::PointNo;
 use quantity::Version;
+use schedules::report::report;
 use state::Desk;
 use state::fresh::fresh_desk;
 use state::statuses;
 use writer::fields::field_at;
-use writer::fields::pad_fields;
 ghost use Prim.Native.Nat.{_≤_};
 ghost use lib.ListN.{length};
 
-// Records by their numbers: the nine calls by document 01's, and damage.
-const SUBMIT: u64 = 4;
-
-const SHOW: u64 = 7;
-
-const STATUS: u64 = 8;
-
-const SETTLE: u64 = 9;
-
-const DAMAGE: u64 = 10;
-
-// How many numbers a record has, from number 0 on: the call's, behind its number and the three lengths, a submission's energies apart.
-const SIZES: [usize; 11] = [0, 25, 9, 6, 8, 8, 7, 6, 6, 6, 10];
-
 // What a script adds to an accepted status.
 const STATUS_FROM: u64 = 100;
-
-// 0 for what is no record.
-fn size_of(op: u64) -> usize {
-    if op <= DAMAGE {
-        let i = op as usize;
-        return SIZES[i];
-    }
-    0
-}
-
-// The length of the record at the head of what is left of a script; 0 where there is none, or it is cut short.
-fn record_length(rest: &[u64]) -> usize
-    ensures { λ r. ⌜ r ≤ length (now (rest .entry)) ⌝ }
-{
-    let op = field_at(rest, 0);
-    let size = size_of(op);
-    if rest.len() < size {
-        return 0;
-    }
-    if op != SUBMIT {
-        return size;
-    }
-    let count = field_at(rest, 7);
-    let left = (rest.len() - size) as u64;
-    if left < count {
-        return 0;
-    }
-    size + count as usize
-}
-
-// The numbers of a record behind its lengths, with 0 behind them.
-fn fields_in(record: &[u64]) -> [u64; MOST_FIELDS] {
-    if record.len() < 4 {
-        return [0u64; MOST_FIELDS];
-    }
-    pad_fields(&record[4..])
-}
-
-// The kind under which a message file has the call: up to assign the same number; 0, which is no kind, for one that changes nothing and for what is no call.
-fn kind_in_file(op: u64) -> u64 {
-    if op <= ASSIGNMENT {
-        return op;
-    }
-    if op == SETTLE {
-        return SETTLEMENT;
-    }
-    0
-}
 
 // A number into a place of an output, and the place behind it; the same place where the output ends there.
 fn put(out: &mut [u64], at: usize, number: u64) -> usize {
@@ -130,12 +79,21 @@ fn run_show(d: Desk, run: u64, group: u64, book: &[u64], out: &mut [u64], at: us
     put_row(out, shown, row)
 }
 
-// The energies of a submission's record; of another record any.
-fn series_in(record: &[u64]) -> &[u64] {
-    if record.len() < 8 {
-        return record;
-    }
-    &record[8..]
+// Report: its number, its surplus, its shortfall.
+fn run_report(
+    d: Desk,
+    run: u64,
+    group: u64,
+    book: &[u64],
+    schedules: &[u64],
+    out: &mut [u64],
+    at: usize,
+) -> usize {
+    let r = report(d, run, group, book, schedules);
+    let answer = r.answer;
+    let told = put(out, at, number_in(answer));
+    let over = put(out, told, r.surplus);
+    put(out, over, r.shortfall)
 }
 
 // The answer goes to a place of the output.
@@ -146,13 +104,12 @@ fn answered(o: Outcome, out: &mut [u64], at: usize) -> Ran {
     Ran { desk, next }
 }
 
-// A call with its stores: one that changes the desk goes through the entry over the lent state. What is no call is not run.
-fn run_call(
+// A call that is not in message files, with its stores; what is none of them is not run.
+fn run_unfiled(
     d: Desk,
     record: &[u64],
-    values: &mut [u64],
-    book: &mut [u64],
-    log: &mut [u64],
+    book: &[u64],
+    schedules: &mut [u64],
     out: &mut [u64],
     at: usize,
 ) -> Ran {
@@ -162,17 +119,40 @@ fn run_call(
         let next = run_show(d, f[0], f[1], book, out, at);
         return Ran { desk: d, next };
     }
+    if op == REPORT {
+        let next = run_report(d, f[0], f[1], book, schedules, out, at);
+        return Ran { desk: d, next };
+    }
     if op == STATUS {
         return answered(status(d, PointNo(f[0]), Version(f[1])), out, at);
     }
-    match call_of(kind_in_file(op), f) {
+    if op == LODGE {
+        let o = via_lodge(d, f[0], Day(f[1]), behind(record, LODGED), schedules);
+        return answered(o, out, at);
+    }
+    Ran { desk: d, next: at }
+}
+
+// A call with its stores: one that changes the desk goes through an entry over the lent state. What is no call is not run.
+fn run_call(
+    d: Desk,
+    record: &[u64],
+    values: &mut [u64],
+    book: &mut [u64],
+    log: &mut [u64],
+    schedules: &mut [u64],
+    out: &mut [u64],
+    at: usize,
+) -> Ran {
+    let f = fields_in(record);
+    match call_of(kind_in_file(field_at(record, 0)), f) {
         Named::Known(call) => {
             let groups = groups_of(f);
-            let series = series_in(record);
-            let o = via_apply(d, call, groups, series, values, book, log);
+            let series = behind(record, SUBMITTED);
+            let o = via_apply(d, call, groups, series, values, book, log, schedules);
             answered(o, out, at)
         }
-        Named::Unknown => Ran { desk: d, next: at },
+        Named::Unknown => run_unfiled(d, record, book, schedules, out, at),
     }
 }
 
@@ -184,6 +164,16 @@ fn first_of(store: &mut [u64], n: usize) -> &mut [u64] {
     &mut store[0..n]
 }
 
+// A number into a place of a store; nothing where it is not this store or has no such place.
+fn overwrite(store: &mut [u64], here: bool, place: u64, number: u64) {
+    if here {
+        if place < store.len() as u64 {
+            let i = place as usize;
+            store[i] = number;
+        }
+    }
+}
+
 // A record that fits the stores.
 fn run_record(
     d: Desk,
@@ -191,37 +181,54 @@ fn run_record(
     values: &mut [u64],
     book: &mut [u64],
     log: &mut [u64],
+    schedules: &mut [u64],
     out: &mut [u64],
     at: usize,
 ) -> Ran {
-    if field_at(record, 0) == DAMAGE {
-        let f = fields_in(record);
+    let op = field_at(record, 0);
+    let f = fields_in(record);
+    if op == DAMAGE {
         let desk = damaged(d, f[0], f[1], f[2], f[3], f[4], f[5]);
         return Ran { desk, next: at };
     }
-    let v = field_at(record, 1) as usize;
-    let b = field_at(record, 2) as usize;
-    let l = field_at(record, 3) as usize;
+    if op == WRITE {
+        overwrite(values, f[0] == 0, f[1], f[2]);
+        overwrite(book, f[0] == 1, f[1], f[2]);
+        overwrite(log, f[0] == 2, f[1], f[2]);
+        overwrite(schedules, f[0] == 3, f[1], f[2]);
+        return Ran { desk: d, next: at };
+    }
     run_call(
         d,
         record,
-        first_of(values, v),
-        first_of(book, b),
-        first_of(log, l),
+        first_of(values, field_at(record, 1) as usize),
+        first_of(book, field_at(record, 2) as usize),
+        first_of(log, field_at(record, 3) as usize),
+        first_of(schedules, field_at(record, 4) as usize),
         out,
         at,
     )
 }
 
-// Whether the output has room for the answer of a call that is lent so many figures, from a place on.
+// Whether the output has room from a place on for the answer of a call that is lent so many figures: show's number, its row's length and its row, or
+// a report's three.
 fn has_room(out: usize, at: usize, book: u64) -> bool {
     if out < at {
         return false;
     }
-    if out - at < 2 {
+    if out - at < 3 {
         return false;
     }
     book <= (out - at - 2) as u64
+}
+
+// Whether the buffers have the lengths that a record lends.
+fn lends_within(record: &[u64], room: Room) -> bool {
+    let values = field_at(record, 1) <= room.values as u64;
+    let book = field_at(record, 2) <= room.book as u64;
+    let log = field_at(record, 3) <= room.log as u64;
+    let schedules = field_at(record, 4) <= room.schedules as u64;
+    values & book & log & schedules
 }
 
 // The length of the record at the head of what is left of a script; 0 where it cannot be run.
@@ -229,27 +236,26 @@ fn ready(rest: &[u64], room: Room) -> usize
     ensures { λ r. ⌜ r ≤ length (now (rest .entry)) ⌝ }
 {
     let n = record_length(rest);
-    if field_at(rest, 0) == DAMAGE {
+    if DAMAGE <= field_at(rest, 0) {
         return n;
     }
-    let v = field_at(rest, 1);
-    let b = field_at(rest, 2);
-    let l = field_at(rest, 3);
-    let fits = (v <= room.values as u64) & (b <= room.book as u64) & (l <= room.log as u64);
-    if fits & has_room(room.out, room.next, b) {
+    let fits = lends_within(rest, room);
+    if fits & has_room(room.out, room.next, field_at(rest, 2)) {
         return n;
     }
     0
 }
 
 // Runs a script on a fresh desk; the answer is how many places of the output are filled. It stops before a record that cannot be run.
-// Each call gives its number (`number_in`: a cause's own, 100 added to a status), show also the length of its row and the row.
+// Each call gives its number (`number_in`: a cause's own, 100 added to a status), show also the length of its row and the row, a report its
+// surplus and its shortfall.
 #[no_mangle]
 pub extern "C" fn drive_script(
     script: &[u64],
     values: &mut [u64],
     book: &mut [u64],
     log: &mut [u64],
+    schedules: &mut [u64],
     out: &mut [u64],
 ) -> u64 {
     let mut desk = fresh_desk();
@@ -261,6 +267,7 @@ pub extern "C" fn drive_script(
             values: values.len(),
             book: book.len(),
             log: log.len(),
+            schedules: schedules.len(),
             out: out.len(),
             next,
         };
@@ -269,7 +276,8 @@ pub extern "C" fn drive_script(
             return next as u64;
         }
         at += n;
-        let ran = run_record(desk, &rest[0..n], values, book, log, out, next);
+        let record = &rest[0..n];
+        let ran = run_record(desk, record, values, book, log, schedules, out, next);
         desk = ran.desk;
         next = ran.next;
     }

@@ -5,19 +5,15 @@ use mathlib.Core.List.{List, [], _∷_, _++_}
 use native.Mathlib.Omega.{arith}
 use lib.ListN.{length, getD, replicate, length-append, List·getD-eq-default}
 use lib.Seq.{getD-take, length-take-le}
+use Rattle.quantity.proofs.Lists.{alike-at}
 use Rattle.message.specs.Call.{mostFields}
 use Rattle.writer.specs.Fields.{fields21}
 
 pub field-none : (fields : List ℕ) (i : ℕ) → length fields ≤ i → 0 ≡ getD fields i 0
 field-none fields i h = sym (List·getD-eq-default fields 0 {n = i} h)
 
-zeros-at : (k i : ℕ) → _≡_ {A = ℕ} (getD (replicate k 0) i 0) 0
-zeros-at zero i = refl
-zeros-at (suc k) zero = refl
-zeros-at (suc k) (suc i) = zeros-at k i
-
 padded-at : (l : List ℕ) (k i : ℕ) → getD (l ++ replicate k 0) i 0 ≡ getD l i 0
-padded-at [] k i = zeros-at k i
+padded-at [] k i = alike-at k i 0
 padded-at (x ∷ l) k zero = refl
 padded-at (x ∷ l) k (suc i) = padded-at l k i
 

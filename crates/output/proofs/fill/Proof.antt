@@ -31,14 +31,17 @@ slice-aggregate-put-output-5 c = search needs
 slice-aggregate-put-output-6 : tie.Need-slice-aggregate-put-output-6
 slice-aggregate-put-output-6 c = search needs
 
+slice-aggregate-put-output-7 : tie.Need-slice-aggregate-put-output-7
+slice-aggregate-put-output-7 c = search needs
+
 put-output-requires : tie.Need-put-output-requires
-put-output-requires c κs = (simp length-take (omega (arith, c .before .before .before .before .before .before .before .read-of .ensures)), omega arith, record { values = length-replicate {A = ℕ} 4096 0; book = length-replicate {A = ℕ} 1296 0; log = length-replicate {A = ℕ} 2048 0; series = length-replicate {A = ℕ} 2980 0; answers = length-replicate {A = ℕ} 21846 0 })
+put-output-requires c κs = (simp length-take (omega (arith, c .before .before .before .before .before .before .before .before .read-of .ensures)), omega arith, record { values = length-replicate {A = ℕ} 4096 0; book = length-replicate {A = ℕ} 1296 0; log = length-replicate {A = ℕ} 2048 0; schedules = length-replicate {A = ℕ} 512 0; series = length-replicate {A = ℕ} 2980 0; answers = length-replicate {A = ℕ} 21846 0 })
 
 same-length : tie.Need-same-length
 same-length c = search needs
 
 returns-2 : tie.Need-returns-2
-returns-2 c = filled _ _ _ _ _ (c .before .before .before .before .before .before .before .before .before .before .before .before .before .before .before .before .if1 .left) (c .before .before .before .before .before .before .before .put-output .kept .1 .0) (c .before .before .before .before .before .before .before .before .before .before .before .before .before .before .before .read-of .ensures) (c .before .before .before .before .before .before .before .put-output .ensures)
+returns-2 c = filled _ _ _ _ _ (c .before .before .before .before .before .before .before .before .before .before .before .before .before .before .before .before .before .before .if1 .left) (c .before .before .before .before .before .before .before .before .put-output .kept .1 .0) (c .before .before .before .before .before .before .before .before .before .before .before .before .before .before .before .before .before .read-of .ensures) (c .before .before .before .before .before .before .before .before .put-output .ensures)
 
 pub fill-spec : {M : Type 1} → statement M
 fill-spec =
@@ -52,6 +55,7 @@ fill-spec =
     slice-aggregate-put-output-4
     slice-aggregate-put-output-5
     slice-aggregate-put-output-6
+    slice-aggregate-put-output-7
     put-output-requires
     same-length
     returns-2)

@@ -22,8 +22,11 @@ same-length-4 c = search needs
 same-length-5 : tie.Need-same-length-5
 same-length-5 c = search needs
 
+same-length-6 : tie.Need-same-length-6
+same-length-6 c = search needs
+
 returns : tie.Need-returns
-returns c = ran-replays _ _ _ _ _ _ _ _ _ _ (c .before .before .before .before .before .before .before .before .before .before .run-file .ensures)
+returns c = ran-replays _ _ _ _ _ _ _ _ _ _ (c .before .before .before .before .before .before .before .before .before .before .before .before .run-file .ensures)
 
 pub replay-spec : {M : Type 1} → statement M
 replay-spec =
@@ -35,4 +38,5 @@ replay-spec =
     same-length-3
     same-length-4
     same-length-5
+    same-length-6
     returns)

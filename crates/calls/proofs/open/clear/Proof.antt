@@ -10,19 +10,19 @@ use Rattle.calls.proofs.open.clear.Statement.{statement}
 use Rattle.calls.proofs.open.clear.Tie as tie
 
 abbrev Inv-loop : tie.InvT-loop
-Inv-loop book₀ i₀ i-end book i = (i ≤ i-end) × (book ≡ replicate i 0 ++ drop i book₀) × (length book ≡ length book₀)
+Inv-loop store₀ i₀ i-end store i = (i ≤ i-end) × (store ≡ replicate i 0 ++ drop i store₀) × (length store ≡ length store₀)
 
 abbrev μ-loop : tie.MeasureT-loop
-μ-loop book₀ i₀ i-end book i = i-end - i
+μ-loop store₀ i₀ i-end store i = i-end - i
 
 loop-holds : tie.Need-loop-holds Inv-loop μ-loop
 loop-holds c = (search needs, refl, refl)
 
-mul-book : tie.Need-mul-book Inv-loop μ-loop
-mul-book c = search needs
+mul-store : tie.Need-mul-store Inv-loop μ-loop
+mul-store c = search needs
 
-slice-write-book : tie.Need-slice-write-book Inv-loop μ-loop
-slice-write-book c = search needs
+slice-write-store : tie.Need-slice-write-store Inv-loop μ-loop
+slice-write-store c = search needs
 
 add-i : tie.Need-add-i Inv-loop μ-loop
 add-i c = search needs
@@ -34,8 +34,8 @@ loop-again : tie.Need-loop-again Inv-loop μ-loop
 loop-again c =
     let l = c .before .loop in (
       search needs,
-      ap (λ (k : List ℕ). set k (l .i) 0) (l .inv .1) ∙ fill-more (l .i) 0 (c .before .before .args .book .now) (c .loop-test .taken),
-      length-set (l .book) (l .i) 0 ∙ l .inv .2,
+      ap (λ (k : List ℕ). set k (l .i) 0) (l .inv .1) ∙ fill-more (l .i) 0 (c .before .before .args .store .now) (c .loop-test .taken),
+      length-set (l .store) (l .i) 0 ∙ l .inv .2,
     )
 
 same-length : tie.Need-same-length Inv-loop μ-loop
@@ -44,7 +44,7 @@ same-length c = c .before .loop .inv .2
 returns : tie.Need-returns Inv-loop μ-loop
 returns c =
     let l = c .before .loop in
-    let b = c .before .before .args .book .now in
+    let b = c .before .before .args .store .now in
     let e : l .i ≡ length b = search needs in
     l .inv .1 ∙ rw (e, drop-of-length-le b {i = length b} (omega arith), append-nil)
 
@@ -55,8 +55,8 @@ clear-spec =
     Inv-loop
     μ-loop
     loop-holds
-    mul-book
-    slice-write-book
+    mul-store
+    slice-write-store
     add-i
     loop-less
     loop-again

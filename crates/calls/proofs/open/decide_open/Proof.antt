@@ -3,7 +3,7 @@ use mathlib.Core.Path.{refl, sym, ap, _∙_}
 use Prim.Native.Nat.{ℕ}
 use borrow.Author.Tests.{not-false}
 use lib.ListN.{replicate}
-use Rattle.checks.proofs.Deciding.{allowed, opens-book, unmoved, all-refused, all-granted}
+use Rattle.checks.proofs.Deciding.{allowed, opens-lengths, unmoved, whole-refused, whole-granted}
 use borrow.Author.Needs.{needs}
 use Rattle.calls.proofs.open.decide_open.Statement.{statement}
 use Rattle.calls.proofs.open.decide_open.Tie as tie
@@ -23,6 +23,9 @@ enum-told c = search needs
 clear-requires : tie.Need-clear-requires
 clear-requires c κs = search needs
 
+clear-requires-2 : tie.Need-clear-requires-2
+clear-requires-2 c κs = search needs
+
 open-desk-requires : tie.Need-open-desk-requires
 open-desk-requires c κs = search needs
 
@@ -32,26 +35,31 @@ accept-requires c κs = search needs
 returns : tie.Need-returns
 returns c =
     let u = unmoved _ (c .refuse .ensures) in
-    (u .0, λ s. all-refused _ _ _ (c .before .before .before .before .open-ruling .ensures) (c .before .before .v .given .1) (u .1))
+    (u .0, whole-refused _ _ _ (c .before .before .before .before .open-ruling .ensures) (c .before .before .v .given .1) (u .1))
 
 same-length : tie.Need-same-length
 same-length c = search needs
 
+same-length-2 : tie.Need-same-length-2
+same-length-2 c = search needs
+
 returns-2 : tie.Need-returns-2
 returns-2 c =
     let k = c .accept .ensures in
-    let v = c .before .before .before .before .before .before .before .before .open-ruling .ensures in
-    let e = c .before .before .before .before .before .before .enum-told .given .1 in
+    let a = c .before .before .before .before .before .before .before .before .before .before .before .before .before .before .before .before .before .before .args in
+    let v = c .before .before .before .before .before .before .before .before .before .before .before .before .open-ruling .ensures in
+    let e = c .before .before .before .before .before .before .before .before .before .before .enum-told .given .1 in
     let h = allowed _ _ (sym v ∙ e) in
-    let p = c .before .open-desk .ensures (c .before .before .before .before .before .before .before .before .before .before .before .before .before .args .d) (h .1 .0) in (
+    let n = opens-lengths _ _ (not-false _ (h .1 .1 .0)) in
+    let book = c .before .before .before .before .before .before .before .before .clear .ensures ∙ ap (λ (n : ℕ). replicate n 0) (n .0) in
+    let schedules = c .before .before .before .before .clear2 .ensures ∙ ap (λ (n : ℕ). replicate n 0) (n .1) in
+    let p = c .before .open-desk .ensures (a .d) (h .1 .0) in (
       rw (k .1) (p .0),
-      λ s. all-granted _ _ _ v e
+      whole-granted _ _ _ v e
           (record {
             answered = k .0;
             held = rw (k .1) (p .1);
-            valued = refl;
-            booked = c .before .before .before .before .clear .ensures ∙ ap (λ (n : ℕ). replicate n 0) (opens-book _ _ (not-false _ (h .1 .1 .0)));
-            noted = refl;
+            left = λ i. record { values = a .values .now; book = book i; log = a .log .now; schedules = schedules i };
           }),
     )
 
@@ -64,8 +72,10 @@ decide-open-spec =
     refuse-requires
     enum-told
     clear-requires
+    clear-requires-2
     open-desk-requires
     accept-requires
     returns
     same-length
+    same-length-2
     returns-2)

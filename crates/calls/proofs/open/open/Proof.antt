@@ -12,8 +12,11 @@ outcome-requires c κs = search needs
 same-length : tie.Need-same-length
 same-length c = search needs
 
+same-length-2 : tie.Need-same-length-2
+same-length-2 c = search needs
+
 returns : tie.Need-returns
-returns c s = let o = c .outcome .ensures in rw (o .0, o .1) (c .before .before .before .decide-open .ensures .1 s)
+returns c = let o = c .outcome .ensures in rw (o .0, o .1) (c .before .before .before .before .before .decide-open .ensures .1)
 
 pub open-spec : {M : Type 1} → statement M
-open-spec = tie.close (tie.spec decide-open-requires outcome-requires same-length returns)
+open-spec = tie.close (tie.spec decide-open-requires outcome-requires same-length same-length-2 returns)

@@ -23,11 +23,16 @@ mul-result c = let q = c .before .before .before .quarters-ok .ensures in
     let o = c .before .before .before .before .before .before .before .args .o in
     omega (arith, within-high 1 2980 (o .quarters) (sym q ∙ not-false _ (c .before .before .if1 .left)))
 
+mul-result-2 : tie.Need-mul-result-2
+mul-result-2 c = let q = c .before .before .before .before .before .before .quarters-ok .ensures in
+    let o = c .before .before .before .before .before .before .before .before .before .before .args .o in
+    omega (arith, within-high 1 2980 (o .quarters) (sym q ∙ not-false _ (c .before .before .before .before .before .if1 .left)))
+
 returns-2 : tie.Need-returns-2
 unfolding openingOk
-returns-2 c = let s = c .before .before .before in
+returns-2 c = let s = c .before .before .before .before .before in
     rw (sym (s .before .before .quarters-ok .ensures) ∙ not-false _ (s .before .if1 .left), s .deadlines-ok .ensures)
 
 pub opening-ok-spec : {M : Type 1} → statement M
 opening-ok-spec =
-    tie.close (tie.spec quarters-ok-requires returns deadlines-ok-requires mul-result returns-2)
+    tie.close (tie.spec quarters-ok-requires returns deadlines-ok-requires mul-result mul-result-2 returns-2)

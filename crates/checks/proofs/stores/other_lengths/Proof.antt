@@ -6,7 +6,7 @@ use Rattle.checks.proofs.stores.other_lengths.Tie as tie
 
 returns : tie.Need-returns
 unfolding otherLengths
-returns c = refl
+returns c = λ _. refl
 
 pub other-lengths-spec : {M : Type 1} → statement M
 other-lengths-spec = tie.close (tie.spec returns)

@@ -12,7 +12,9 @@ look-requires : tie.Need-look-requires
 look-requires c κs = search needs
 
 decide-requires : tie.Need-decide-requires
-decide-requires c κs = rw (c .before .before .before .before .asks-of .ensures (c .before .before .before .before .before .before .before .before .before .args .groups) (map signed (c .before .before .before .before .before .before .before .before .before .args .series .now))) at (c .before .before .before .look .ensures)
+decide-requires c κs =
+    let a = c .before .before .before .before .before .before .before .before .before .before .before .args in
+    rw (c .before .before .before .before .before .asks-of .ensures (a .groups) (map signed (a .series .now))) at (c .before .before .before .before .look .ensures)
 
 outcome-requires : tie.Need-outcome-requires
 outcome-requires c κs = search needs
@@ -26,8 +28,11 @@ same-length-2 c = search needs
 same-length-3 : tie.Need-same-length-3
 same-length-3 c = search needs
 
+same-length-4 : tie.Need-same-length-4
+same-length-4 c = search needs
+
 returns : tie.Need-returns
-returns c = rw (c .outcome .ensures .0, c .outcome .ensures .1) (c .before .before .before .before .before .before .before .decide .ensures .1)
+returns c = rw (c .outcome .ensures .0, c .outcome .ensures .1) (c .before .before .before .before .before .before .before .before .before .decide .ensures .1)
 
 pub answer-spec : {M : Type 1} → statement M
 answer-spec =
@@ -40,4 +45,5 @@ answer-spec =
     same-length
     same-length-2
     same-length-3
+    same-length-4
     returns)

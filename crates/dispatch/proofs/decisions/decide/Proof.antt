@@ -1,11 +1,16 @@
 -- `decide` meets its contract. Assumes nothing.
 use mathlib.Core.Path.{refl}
-use Rattle.checks.specs.Stepped.{storing}
-use Rattle.checks.proofs.Untaken.{none-taken, book-taken}
+use Rattle.model.specs.Call.{Stores}
+use Rattle.checks.specs.Stepped.{storesOf}
+use Rattle.checks.proofs.Untaken.{none-taken, book-taken, unplanned}
 use Rattle.dispatch.specs.Asked.{asked}
 use borrow.Author.Needs.{needs}
 use Rattle.dispatch.proofs.decisions.decide.Statement.{statement}
 use Rattle.dispatch.proofs.decisions.decide.Tie as tie
+
+-- the stores as they are lent
+abbrev lent-to : tie.Start → Stores
+lent-to c = storesOf (c .args .values .now) (c .args .book .now) (c .args .log .now) (c .args .schedules .now)
 
 enum-known-call : tie.Need-enum-known-call
 enum-known-call c = search needs
@@ -18,28 +23,28 @@ enum-known-call-2 c = search needs
 
 decide-activate-requires : tie.Need-decide-activate-requires
 unfolding asked
-decide-activate-requires c κs = rw (c .before .call2 .given .1) at (c .before .before .before .before .before .before .before .pre)
+decide-activate-requires c κs = rw (c .before .call2 .given .1) at (c .before .before .before .before .before .before .before .before .pre)
 
 enum-known-call-3 : tie.Need-enum-known-call-3
 enum-known-call-3 c = search needs
 
 decide-deactivate-requires : tie.Need-decide-deactivate-requires
 unfolding asked
-decide-deactivate-requires c κs = rw (c .before .call3 .given .1) at (c .before .before .before .before .before .before .before .pre)
+decide-deactivate-requires c κs = rw (c .before .call3 .given .1) at (c .before .before .before .before .before .before .before .before .pre)
 
 enum-known-call-4 : tie.Need-enum-known-call-4
 enum-known-call-4 c = search needs
 
 decide-submit-requires : tie.Need-decide-submit-requires
 unfolding asked
-decide-submit-requires c κs = rw (c .before .before .before .before .call4 .given .1) at (c .before .before .before .before .before .before .before .before .before .before .pre)
+decide-submit-requires c κs = rw (c .before .before .before .before .call4 .given .1) at (c .before .before .before .before .before .before .before .before .before .before .before .pre)
 
 enum-known-call-5 : tie.Need-enum-known-call-5
 enum-known-call-5 c = search needs
 
 decide-notice-requires : tie.Need-decide-notice-requires
 unfolding asked
-decide-notice-requires c κs = rw (c .before .before .before .before .call5 .given .1) at (c .before .before .before .before .before .before .before .before .before .before .pre)
+decide-notice-requires c κs = rw (c .before .before .before .before .call5 .given .1) at (c .before .before .before .before .before .before .before .before .before .before .before .pre)
 
 enum-known-call-6 : tie.Need-enum-known-call-6
 enum-known-call-6 c = search needs
@@ -62,20 +67,20 @@ same-length-2 c = search needs
 same-length-3 : tie.Need-same-length-3
 same-length-3 c = search needs
 
+same-length-4 : tie.Need-same-length-4
+same-length-4 c = search needs
+
 returns : tie.Need-returns
 unfolding asked
-returns c = rw (c .before .before .before .before .before .before .before .call .given .1) (c .before .before .decide-open .ensures)
+returns c = rw (c .before .before .before .before .before .before .before .before .before .before .call .given .1) (c .before .before .before .before .decide-open .ensures)
 
 returns-2 : tie.Need-returns-2
 unfolding asked
-returns-2 c = let e = c .decide-activate .ensures in rw (c .before .before .call2 .given .1) (e .0, λ s. none-taken _ _ _ refl (e .1 _))
+returns-2 c = let e = c .decide-activate .ensures in rw (c .before .before .call2 .given .1) (e .0, unplanned _ _ _ refl (none-taken _ _ _ refl (e .1 _)))
 
 returns-3 : tie.Need-returns-3
 unfolding asked
-returns-3 c = let e = c .decide-deactivate .ensures in rw (c .before .before .call3 .given .1) (e .0, λ s. none-taken _ _ _ refl (e .1 _))
-
-same-length-4 : tie.Need-same-length-4
-same-length-4 c = search needs
+returns-3 c = let e = c .decide-deactivate .ensures in rw (c .before .before .call3 .given .1) (e .0, unplanned _ _ _ refl (none-taken _ _ _ refl (e .1 _)))
 
 same-length-5 : tie.Need-same-length-5
 same-length-5 c = search needs
@@ -83,12 +88,15 @@ same-length-5 c = search needs
 same-length-6 : tie.Need-same-length-6
 same-length-6 c = search needs
 
-returns-4 : tie.Need-returns-4
-unfolding asked
-returns-4 c = rw (c .before .before .before .before .before .before .before .before .before .before .before .call4 .given .1) (c .before .before .before .before .before .before .decide-submit .ensures)
-
 same-length-7 : tie.Need-same-length-7
 same-length-7 c = search needs
+
+returns-4 : tie.Need-returns-4
+unfolding asked
+returns-4 c =
+    let e = c .before .before .before .before .before .before .decide-submit .ensures in
+    let s = lent-to (c .before .before .before .before .before .before .before .before .before .before .before .before .before .before .before .before .before .before) in
+    rw (c .before .before .before .before .before .before .before .before .before .before .before .call4 .given .1) (e .0, unplanned _ _ s refl (e .1 s))
 
 same-length-8 : tie.Need-same-length-8
 same-length-8 c = search needs
@@ -96,20 +104,29 @@ same-length-8 c = search needs
 same-length-9 : tie.Need-same-length-9
 same-length-9 c = search needs
 
-returns-5 : tie.Need-returns-5
-unfolding asked
-returns-5 c = rw (c .before .before .before .before .before .before .before .before .before .call5 .given .1) (c .before .before .before .before .decide-notice .ensures)
-
 same-length-10 : tie.Need-same-length-10
 same-length-10 c = search needs
 
+returns-5 : tie.Need-returns-5
+unfolding asked
+returns-5 c =
+    let e = c .before .before .before .before .decide-notice .ensures in
+    let s = lent-to (c .before .before .before .before .before .before .before .before .before .before .before .before .before .before .before .before) in
+    rw (c .before .before .before .before .before .before .before .before .before .call5 .given .1) (e .0, unplanned _ _ s refl (e .1 s))
+
+same-length-11 : tie.Need-same-length-11
+same-length-11 c = search needs
+
 returns-6 : tie.Need-returns-6
 unfolding asked
-returns-6 c = let e = c .before .before .decide-assign .ensures in rw (c .before .before .before .before .before .call6 .given .1) (e .0, λ s. book-taken _ _ (storing s (c .before .before .before .before .before .before .before .before .before .before .before .args .values .now) (c .before .before .before .before .before .before .before .before .before .before .before .args .book .now) (c .before .before .before .before .before .before .before .before .before .before .before .args .log .now)) refl (e .1 (storing s (c .before .before .before .before .before .before .before .before .before .before .before .args .values .now) (c .before .before .before .before .before .before .before .before .before .before .before .args .book .now) (c .before .before .before .before .before .before .before .before .before .before .before .args .log .now))))
+returns-6 c =
+    let e = c .before .before .decide-assign .ensures in
+    let s = lent-to (c .before .before .before .before .before .before .before .before .before .before .before .before) in
+    rw (c .before .before .before .before .before .call6 .given .1) (e .0, unplanned _ _ s refl (book-taken _ _ s refl (e .1 s)))
 
 returns-7 : tie.Need-returns-7
 unfolding asked
-returns-7 c = let e = c .decide-settle .ensures in rw (c .before .before .call7 .given .1) (e .0, λ s. none-taken _ _ _ refl (e .1 _))
+returns-7 c = let e = c .decide-settle .ensures in rw (c .before .before .call7 .given .1) (e .0, unplanned _ _ _ refl (none-taken _ _ _ refl (e .1 _)))
 
 pub decide-spec : {M : Type 1} → statement M
 decide-spec =
@@ -132,17 +149,18 @@ decide-spec =
     same-length
     same-length-2
     same-length-3
+    same-length-4
     returns
     returns-2
     returns-3
-    same-length-4
     same-length-5
     same-length-6
-    returns-4
     same-length-7
+    returns-4
     same-length-8
     same-length-9
-    returns-5
     same-length-10
+    returns-5
+    same-length-11
     returns-6
     returns-7)

@@ -63,19 +63,19 @@ use Rattle.entry.proofs.apply.apply.Statement as stated
 use Rattle.entry.proofs.apply.apply.Code as code
 
 abbrev stayed : Stays (here.ended .signature .params) (here.ended .kept)
-stayed = (stay-ref (0 ∷ []) tt (plain (λ _. Deskᵀ.the-row)), (said (plain (λ _. DeskCallᵀ.the-row)), (said (plain (λ _. Array u64 17)), (said (shrSliceOf (1 ∷ []) tt (plain (λ _. u64))), (said (mutSliceOf (2 ∷ []) tt (plain (λ _. u64))), (said (mutSliceOf (3 ∷ []) tt (plain (λ _. u64))), (said (mutSliceOf (4 ∷ []) tt (plain (λ _. u64))), tt)))))))
+stayed = (stay-ref (0 ∷ []) tt (plain (λ _. Deskᵀ.the-row)), (said (plain (λ _. DeskCallᵀ.the-row)), (said (plain (λ _. Array u64 17)), (said (shrSliceOf (1 ∷ []) tt (plain (λ _. u64))), (said (mutSliceOf (2 ∷ []) tt (plain (λ _. u64))), (said (mutSliceOf (3 ∷ []) tt (plain (λ _. u64))), (said (mutSliceOf (4 ∷ []) tt (plain (λ _. u64))), (said (mutSliceOf (5 ∷ []) tt (plain (λ _. u64))), tt))))))))
 
-abbrev spelled : (κs : Lfts 5) → Spells (typesAt (here.signature .params) κs)
-spelled κs = (ptr-vals, (EL.vals DeskCallᵀ.the-type DeskCallᴸ.the-laws, (array-vals (uint-vals w64), (slice-vals, (slice-vals, (slice-vals, (slice-vals, tt)))))))
+abbrev spelled : (κs : Lfts 6) → Spells (typesAt (here.signature .params) κs)
+spelled κs = (ptr-vals, (EL.vals DeskCallᵀ.the-type DeskCallᴸ.the-laws, (array-vals (uint-vals w64), (slice-vals, (slice-vals, (slice-vals, (slice-vals, (slice-vals, tt))))))))
 
-abbrev telling : (κs : Lfts 5) → Tellss (typesAt (here.signature .params) κs) (Ises (typesAt (here.signature .params) κs)) (spelled κs)
-telling κs = (mut-tells (named 0) (κs .0) Deskᵀ.the-row, (EL.tells DeskCallᵀ.the-type DeskCallᴸ.the-laws, (array-tells u64 (uint-vals w64) (uint-tells w64) 17, (shr-slice-tells (named 1) (κs .1 .0) u64, (mut-slice-tells (named 2) (κs .1 .1 .0) u64, (mut-slice-tells (named 3) (κs .1 .1 .1 .0) u64, (mut-slice-tells (named 4) (κs .1 .1 .1 .1 .0) u64, tt)))))))
+abbrev telling : (κs : Lfts 6) → Tellss (typesAt (here.signature .params) κs) (Ises (typesAt (here.signature .params) κs)) (spelled κs)
+telling κs = (mut-tells (named 0) (κs .0) Deskᵀ.the-row, (EL.tells DeskCallᵀ.the-type DeskCallᴸ.the-laws, (array-tells u64 (uint-vals w64) (uint-tells w64) 17, (shr-slice-tells (named 1) (κs .1 .0) u64, (mut-slice-tells (named 2) (κs .1 .1 .0) u64, (mut-slice-tells (named 3) (κs .1 .1 .1 .0) u64, (mut-slice-tells (named 4) (κs .1 .1 .1 .1 .0) u64, (mut-slice-tells (named 5) (κs .1 .1 .1 .1 .1 .0) u64, tt))))))))
 
 -- the contract that the proof cites
 abbrev Callee : {M : Type 1} (𝓤 : URA M) (H : Heap 𝓤) (A : Atoms 𝓤) (at-mem : Memory → SProp 𝓤) (run : Routine → Fun 𝓤) → Contract 𝓤
 Callee 𝓤 H A at-mem run = tripleOf 𝓤 H A callee.signature (callee.spec 𝓤 H A at-mem run)
 
-module _ {M : Type 1} (𝓤 : URA M) (H : Heap 𝓤) (A : Atoms 𝓤) (W : Given 𝓤 H A) (at-mem : Memory → SProp 𝓤) (run : Routine → Fun 𝓤) (κs : Lfts 5) (qs : Shares 5) (a : Args here.signature κs)
+module _ {M : Type 1} (𝓤 : URA M) (H : Heap 𝓤) (A : Atoms 𝓤) (W : Given 𝓤 H A) (at-mem : Memory → SProp 𝓤) (run : Routine → Fun 𝓤) (κs : Lfts 6) (qs : Shares 6) (a : Args here.signature κs)
     (are : Are (typesAt (here.signature .params) κs) (Ises (typesAt (here.signature .params) κs)) a (valss (typesAt (here.signature .params) κs) (spelled κs) a)) where
   abbrev vals : Vals here.signature κs
   vals = valss (typesAt (here.signature .params) κs) (spelled κs) a
@@ -105,7 +105,7 @@ module _ {M : Type 1} (𝓤 : URA M) (H : Heap 𝓤) (A : Atoms 𝓤) (W : Given
 
   -- what is said of those lists
   abbrev Last : Lasts callee.ended (κs .1) (h, a .1) → Fml
-  Last zs = lastsOf {n = 4} (κs .1) (plain (λ _. DeskCallᵀ.the-row) ∷ plain (λ _. Array u64 17) ∷ shrSliceOf (0 ∷ []) tt (plain (λ _. u64)) ∷ mutSliceOf (1 ∷ []) tt (plain (λ _. u64)) ∷ mutSliceOf (2 ∷ []) tt (plain (λ _. u64)) ∷ mutSliceOf (3 ∷ []) tt (plain (λ _. u64)) ∷ []) (callee.ended .kept .1) (a .1) (zs .1)
+  Last zs = lastsOf {n = 5} (κs .1) (plain (λ _. DeskCallᵀ.the-row) ∷ plain (λ _. Array u64 17) ∷ shrSliceOf (0 ∷ []) tt (plain (λ _. u64)) ∷ mutSliceOf (1 ∷ []) tt (plain (λ _. u64)) ∷ mutSliceOf (2 ∷ []) tt (plain (λ _. u64)) ∷ mutSliceOf (3 ∷ []) tt (plain (λ _. u64)) ∷ mutSliceOf (4 ∷ []) tt (plain (λ _. u64)) ∷ []) (callee.ended .kept .1) (a .1) (zs .1)
 
   -- what the core is called with: the desk, and the other parameters as they are
   abbrev to-core : Callee 𝓤 H A at-mem run .Ghost
@@ -115,13 +115,13 @@ module _ {M : Type 1} (𝓤 : URA M) (H : Heap 𝓤) (A : Atoms 𝓤) (W : Given
   told : (r : Outcome) (zs : Lasts callee.ended (κs .1) (h, a .1)) → ent 𝓤 (Ens r zs) (here.clauses 𝓤 H A at-mem run κs a .ensures tt (r .answer) (atExit here.ended κs a (r .desk, zs .1)))
   told r zs = id⊢ 𝓤 (Ens r zs)
 
-  goes : ent 𝓤 (⋆ 𝓤 H A ((‵ (flft (κs .1 .0) (qs .1 .0)) ⊛ ‵ (flft (κs .1 .1 .0) (qs .1 .1 .0)) ⊛ ‵ (flft (κs .1 .1 .1 .0) (qs .1 .1 .1 .0)) ⊛ ‵ (flft (κs .1 .1 .1 .1 .0) (qs .1 .1 .1 .1 .0)) ⊛ ‵ ftrue) ∷ ‵ (owns (typesAt (callee.signature .params) (κs .1)) (h, a .1) (desk-vals h, vals .1)) ∷ raw Req ∷ [])) (Callee 𝓤 H A at-mem run .pre to-core)
-  goes = qed W ((‵ (flft (κs .1 .0) (qs .1 .0)) ⊛ ‵ (flft (κs .1 .1 .0) (qs .1 .1 .0)) ⊛ ‵ (flft (κs .1 .1 .1 .0) (qs .1 .1 .1 .0)) ⊛ ‵ (flft (κs .1 .1 .1 .1 .0) (qs .1 .1 .1 .1 .0)) ⊛ ‵ ftrue) ∷ ‵ (owns (typesAt (callee.signature .params) (κs .1)) (h, a .1) (desk-vals h, vals .1)) ∷ raw Req ∷ []) ∵ join ! $ frame ! $ done !
+  goes : ent 𝓤 (⋆ 𝓤 H A ((‵ (flft (κs .1 .0) (qs .1 .0)) ⊛ ‵ (flft (κs .1 .1 .0) (qs .1 .1 .0)) ⊛ ‵ (flft (κs .1 .1 .1 .0) (qs .1 .1 .1 .0)) ⊛ ‵ (flft (κs .1 .1 .1 .1 .0) (qs .1 .1 .1 .1 .0)) ⊛ ‵ (flft (κs .1 .1 .1 .1 .1 .0) (qs .1 .1 .1 .1 .1 .0)) ⊛ ‵ ftrue) ∷ ‵ (owns (typesAt (callee.signature .params) (κs .1)) (h, a .1) (desk-vals h, vals .1)) ∷ raw Req ∷ [])) (Callee 𝓤 H A at-mem run .pre to-core)
+  goes = qed W ((‵ (flft (κs .1 .0) (qs .1 .0)) ⊛ ‵ (flft (κs .1 .1 .0) (qs .1 .1 .0)) ⊛ ‵ (flft (κs .1 .1 .1 .0) (qs .1 .1 .1 .0)) ⊛ ‵ (flft (κs .1 .1 .1 .1 .0) (qs .1 .1 .1 .1 .0)) ⊛ ‵ (flft (κs .1 .1 .1 .1 .1 .0) (qs .1 .1 .1 .1 .1 .0)) ⊛ ‵ ftrue) ∷ ‵ (owns (typesAt (callee.signature .params) (κs .1)) (h, a .1) (desk-vals h, vals .1)) ∷ raw Req ∷ []) ∵ join ! $ frame ! $ done !
 
-  exits : (r : Outcome) (zs : Lasts callee.ended (κs .1) (h, a .1)) → Is Answerᵀ.the-row (r .answer) (answer-val (r .answer) ∷ []) → ent 𝓤 (⋆ 𝓤 H A (‵ (fobs γ (Deskᵀ.the-row .coded .code (r .desk))) ∷ ‵ (fbor (κs .0) (Body (mem Deskᵀ.the-row) b o γ)) ∷ ‵ (flft (κs .0) (qs .0)) ∷ (‵ (flft (κs .1 .0) (qs .1 .0)) ⊛ ‵ (flft (κs .1 .1 .0) (qs .1 .1 .0)) ⊛ ‵ (flft (κs .1 .1 .1 .0) (qs .1 .1 .1 .0)) ⊛ ‵ (flft (κs .1 .1 .1 .1 .0) (qs .1 .1 .1 .1 .0)) ⊛ ‵ ftrue) ∷ ‵ (Last zs) ∷ raw (Ens r zs) ∷ [])) (Post (answer-val (r .answer)))
+  exits : (r : Outcome) (zs : Lasts callee.ended (κs .1) (h, a .1)) → Is Answerᵀ.the-row (r .answer) (answer-val (r .answer) ∷ []) → ent 𝓤 (⋆ 𝓤 H A (‵ (fobs γ (Deskᵀ.the-row .coded .code (r .desk))) ∷ ‵ (fbor (κs .0) (Body (mem Deskᵀ.the-row) b o γ)) ∷ ‵ (flft (κs .0) (qs .0)) ∷ (‵ (flft (κs .1 .0) (qs .1 .0)) ⊛ ‵ (flft (κs .1 .1 .0) (qs .1 .1 .0)) ⊛ ‵ (flft (κs .1 .1 .1 .0) (qs .1 .1 .1 .0)) ⊛ ‵ (flft (κs .1 .1 .1 .1 .0) (qs .1 .1 .1 .1 .0)) ⊛ ‵ (flft (κs .1 .1 .1 .1 .1 .0) (qs .1 .1 .1 .1 .1 .0)) ⊛ ‵ ftrue) ∷ ‵ (Last zs) ∷ raw (Ens r zs) ∷ [])) (Post (answer-val (r .answer)))
   exits r zs is =
-      qed W (‵ (fobs γ (Deskᵀ.the-row .coded .code (r .desk))) ∷ ‵ (fbor (κs .0) (Body (mem Deskᵀ.the-row) b o γ)) ∷ ‵ (flft (κs .0) (qs .0)) ∷ (‵ (flft (κs .1 .0) (qs .1 .0)) ⊛ ‵ (flft (κs .1 .1 .0) (qs .1 .1 .0)) ⊛ ‵ (flft (κs .1 .1 .1 .0) (qs .1 .1 .1 .0)) ⊛ ‵ (flft (κs .1 .1 .1 .1 .0) (qs .1 .1 .1 .1 .0)) ⊛ ‵ ftrue) ∷ ‵ (Last zs) ∷ raw (Ens r zs) ∷ []) ∵
-      suffices ! _ (ends-at 𝓤 H A here.ended stayed (here.clauses 𝓤 H A at-mem run) W ((κs, qs, tt, a, vals), tt) (answer-val (r .answer)) (r .answer) (r .desk, zs .1) (tt, (tt, (tt, (tt, (tt, (tt, (tt, tt)))))))) $
+      qed W (‵ (fobs γ (Deskᵀ.the-row .coded .code (r .desk))) ∷ ‵ (fbor (κs .0) (Body (mem Deskᵀ.the-row) b o γ)) ∷ ‵ (flft (κs .0) (qs .0)) ∷ (‵ (flft (κs .1 .0) (qs .1 .0)) ⊛ ‵ (flft (κs .1 .1 .0) (qs .1 .1 .0)) ⊛ ‵ (flft (κs .1 .1 .1 .0) (qs .1 .1 .1 .0)) ⊛ ‵ (flft (κs .1 .1 .1 .1 .0) (qs .1 .1 .1 .1 .0)) ⊛ ‵ (flft (κs .1 .1 .1 .1 .1 .0) (qs .1 .1 .1 .1 .1 .0)) ⊛ ‵ ftrue) ∷ ‵ (Last zs) ∷ raw (Ens r zs) ∷ []) ∵
+      suffices ! _ (ends-at 𝓤 H A here.ended stayed (here.clauses 𝓤 H A at-mem run) W ((κs, qs, tt, a, vals), tt) (answer-val (r .answer)) (r .answer) (r .desk, zs .1) (tt, (tt, (tt, (tt, (tt, (tt, (tt, (tt, tt))))))))) $
       feqI ! (List Val) (vptr b o ∷ []) (vptr b o ∷ []) refl $ fjoin3 ! $ move ! (0 ∷ 3 ∷ []) $ fjoin ! $
       owned ! Answerᵀ.the-row (Is Answerᵀ.the-row) (EL.makes Answerᵀ.the-type Answerᴸ.the-plain 𝓤 H A) (r .answer) _ is $
       move ! (1 ∷ 0 ∷ []) $ join ! $ move ! (1 ∷ 2 ∷ []) $ join ! $ join ! $ frame ! $ by ! (told r zs)
@@ -129,7 +129,7 @@ module _ {M : Type 1} (𝓤 : URA M) (H : Heap 𝓤) (A : Atoms 𝓤) (W : Given
   module _ (C : Calls 𝓤 H) (Λ : Loops 𝓤 H) (fm : FmC 𝓤 H (W .laws) C) (known : Triple 𝓤 (C #callee) (Callee 𝓤 H A at-mem run)) where
     walk : ent 𝓤 (sep 𝓤 (onEntry 𝓤 H A here.signature κs qs a vals) Req) (WpFn 𝓤 H C Λ code.function (flat (typesAt (here.signature .params) κs) vals) Post)
     walk =
-        qed W (((‵ (flft (κs .0) (qs .0)) ⊛ ‵ (flft (κs .1 .0) (qs .1 .0)) ⊛ ‵ (flft (κs .1 .1 .0) (qs .1 .1 .0)) ⊛ ‵ (flft (κs .1 .1 .1 .0) (qs .1 .1 .1 .0)) ⊛ ‵ (flft (κs .1 .1 .1 .1 .0) (qs .1 .1 .1 .1 .0)) ⊛ ‵ ftrue) ⊛ ‵ (owns (typesAt (here.signature .params) κs) a vals)) ∷ raw Req ∷ []) ∵ split ! $ enter ! C Λ code.function _ _ $
+        qed W (((‵ (flft (κs .0) (qs .0)) ⊛ ‵ (flft (κs .1 .0) (qs .1 .0)) ⊛ ‵ (flft (κs .1 .1 .0) (qs .1 .1 .0)) ⊛ ‵ (flft (κs .1 .1 .1 .0) (qs .1 .1 .1 .0)) ⊛ ‵ (flft (κs .1 .1 .1 .1 .0) (qs .1 .1 .1 .1 .0)) ⊛ ‵ (flft (κs .1 .1 .1 .1 .1 .0) (qs .1 .1 .1 .1 .1 .0)) ⊛ ‵ ftrue) ⊛ ‵ (owns (typesAt (here.signature .params) κs) a vals)) ∷ raw Req ∷ []) ∵ split ! $ enter ! C Λ code.function _ _ $
         alloc1 ! {τ = Answerᴸ.mir} (λ l0.
         alloc1 ! (λ l1.
         alloc1 ! {τ = DeskCallᴸ.mir} (λ l2.
@@ -138,79 +138,94 @@ module _ {M : Type 1} (𝓤 : URA M) (H : Heap 𝓤) (A : Atoms 𝓤) (W : Given
         alloc1 ! (λ l5.
         alloc1 ! (λ l6.
         alloc1 ! (λ l7.
-        alloc1 ! {τ = Outcomeᴸ.mir} (λ l8.
-        alloc1 ! {τ = Deskᴸ.mir} (λ l9.
-        alloc1 ! (λ l10.
+        alloc1 ! (λ l8.
+        alloc1 ! {τ = Outcomeᴸ.mir} (λ l9.
+        alloc1 ! {τ = Deskᴸ.mir} (λ l10.
         alloc1 ! (λ l11.
         alloc1 ! (λ l12.
         alloc1 ! (λ l13.
         alloc1 ! (λ l14.
         alloc1 ! (λ l15.
+        alloc1 ! (λ l16.
+        alloc1 ! (λ l17.
+        alloc1 ! (λ l18.
         alloc0 ! $ params1 ! $
-        pass1 ! (init ! 28 refl (tt, tt)) $
-        pass1 ! (init ! 26 {τ = DeskCallᴸ.mir} refl (EL.lawful DeskCallᵀ.the-type DeskCallᴸ.the-laws 𝓤 H A W tt .typed (a .1 .0) _ (are .1 .0) .0)) $
-        pass1 ! (init ! 24 refl (array-lawful 𝓤 H A W u64 (uint-lawful 𝓤 H A W w64) 17 .typed (a .1 .1 .0) _ (are .1 .1 .0) .0)) $
-        pass1 ! (init ! 22 refl (tt, (tt, (record { fits = are .1 .1 .1 .0 .0 .1 .0 }, tt)))) $
-        pass1 ! (init ! 20 refl (tt, (tt, (record { fits = are .1 .1 .1 .1 .0 .0 .1 .0 }, tt)))) $
-        pass1 ! (init ! 18 refl (tt, (tt, (record { fits = are .1 .1 .1 .1 .1 .0 .0 .1 .0 }, tt)))) $
-        pass1 ! (init ! 16 refl (tt, (tt, (record { fits = are .1 .1 .1 .1 .1 .1 .0 .0 .1 .0 }, tt)))) $
+        pass1 ! (init ! 34 refl (tt, tt)) $
+        pass1 ! (init ! 32 {τ = DeskCallᴸ.mir} refl (EL.lawful DeskCallᵀ.the-type DeskCallᴸ.the-laws 𝓤 H A W tt .typed (a .1 .0) _ (are .1 .0) .0)) $
+        pass1 ! (init ! 30 refl (array-lawful 𝓤 H A W u64 (uint-lawful 𝓤 H A W w64) 17 .typed (a .1 .1 .0) _ (are .1 .1 .0) .0)) $
+        pass1 ! (init ! 28 refl (tt, (tt, (record { fits = are .1 .1 .1 .0 .0 .1 .0 }, tt)))) $
+        pass1 ! (init ! 26 refl (tt, (tt, (record { fits = are .1 .1 .1 .1 .0 .0 .1 .0 }, tt)))) $
+        pass1 ! (init ! 24 refl (tt, (tt, (record { fits = are .1 .1 .1 .1 .1 .0 .0 .1 .0 }, tt)))) $
+        pass1 ! (init ! 22 refl (tt, (tt, (record { fits = are .1 .1 .1 .1 .1 .1 .0 .0 .1 .0 }, tt)))) $
+        pass1 ! (init ! 20 refl (tt, (tt, (record { fits = are .1 .1 .1 .1 .1 .1 .1 .0 .0 .1 .0 }, tt)))) $
         pass0 ! $
         -- the borrow is opened
-        move ! (33 ∷ 34 ∷ []) $
+        move ! (39 ∷ 40 ∷ []) $
         fsplit ! $ fsplit3 ! $ drop ! $
-        move ! (36 ∷ []) $
+        move ! (42 ∷ []) $
         split ! $
         move ! (2 ∷ 3 ∷ 0 ∷ []) $
         opens ! tt Deskᵀ.the-row {h = h} b o (λ vs. spelt ! Deskᵀ.the-row (Is Deskᵀ.the-row) (shows 𝓤 H A Deskᵀ.the-row) desk-vals desk-tells fullShare h vs b o $
         move ! (1 ∷ []) $
         peeks ! Deskᵀ.the-row (Is Deskᵀ.the-row) (shows 𝓤 H A Deskᵀ.the-row) h (desk-vals h) (λ g.
         -- the desk is copied out
-        assigns ! (of-opd ! (load ! (from ! (hop ! (look ! 36 refl) (stop !))) (look-raw ! 1 {τ = Deskᴸ.mir} refl))) (from ! (stop !)) (init ! 20 {τ = Deskᴸ.mir} refl (LL.lawful Deskᵀ.the-type Deskᴸ.the-laws 𝓤 H A W .typed h _ g .0)) $
-        assigns ! (addr ! (from ! (fld ! refl (hop ! (look-in ! 28 (sub ! 0 refl (whole !))) (stop !))))) (from ! (stop !)) (init ! 18 refl (tt, tt)) $
-        assigns ! (agg ! (and-then ! (load ! (from ! (stop !)) (look ! 18 refl)) (and-then ! (load ! (from ! (fld ! refl (stop !))) (look-in ! 28 (sub ! 1 refl (whole !)))) (no-more !)))) (from ! (stop !)) (init ! 16 refl (tt, (tt, (record { fits = are .1 .1 .1 .1 .0 .0 .1 .0 }, tt)))) $
-        assigns ! (addr ! (from ! (fld ! refl (hop ! (look-in ! 26 (sub ! 0 refl (whole !))) (stop !))))) (from ! (stop !)) (init ! 14 refl (tt, tt)) $
-        assigns ! (agg ! (and-then ! (load ! (from ! (stop !)) (look ! 14 refl)) (and-then ! (load ! (from ! (fld ! refl (stop !))) (look-in ! 26 (sub ! 1 refl (whole !)))) (no-more !)))) (from ! (stop !)) (init ! 12 refl (tt, (tt, (record { fits = are .1 .1 .1 .1 .1 .0 .0 .1 .0 }, tt)))) $
-        assigns ! (addr ! (from ! (fld ! refl (hop ! (look-in ! 24 (sub ! 0 refl (whole !))) (stop !))))) (from ! (stop !)) (init ! 10 refl (tt, tt)) $
-        assigns ! (agg ! (and-then ! (load ! (from ! (stop !)) (look ! 10 refl)) (and-then ! (load ! (from ! (fld ! refl (stop !))) (look-in ! 24 (sub ! 1 refl (whole !)))) (no-more !)))) (from ! (stop !)) (init ! 8 refl (tt, (tt, (record { fits = are .1 .1 .1 .1 .1 .1 .0 .0 .1 .0 }, tt)))) $
+        assigns ! (of-opd ! (load ! (from ! (hop ! (look ! 42 refl) (stop !))) (look-raw ! 1 {τ = Deskᴸ.mir} refl))) (from ! (stop !)) (init ! 24 {τ = Deskᴸ.mir} refl (LL.lawful Deskᵀ.the-type Deskᴸ.the-laws 𝓤 H A W .typed h _ g .0)) $
+        assigns ! (addr ! (from ! (fld ! refl (hop ! (look-in ! 34 (sub ! 0 refl (whole !))) (stop !))))) (from ! (stop !)) (init ! 22 refl (tt, tt)) $
+        assigns ! (agg ! (and-then ! (load ! (from ! (stop !)) (look ! 22 refl)) (and-then ! (load ! (from ! (fld ! refl (stop !))) (look-in ! 34 (sub ! 1 refl (whole !)))) (no-more !)))) (from ! (stop !)) (init ! 20 refl (tt, (tt, (record { fits = are .1 .1 .1 .1 .0 .0 .1 .0 }, tt)))) $
+        assigns ! (addr ! (from ! (fld ! refl (hop ! (look-in ! 32 (sub ! 0 refl (whole !))) (stop !))))) (from ! (stop !)) (init ! 18 refl (tt, tt)) $
+        assigns ! (agg ! (and-then ! (load ! (from ! (stop !)) (look ! 18 refl)) (and-then ! (load ! (from ! (fld ! refl (stop !))) (look-in ! 32 (sub ! 1 refl (whole !)))) (no-more !)))) (from ! (stop !)) (init ! 16 refl (tt, (tt, (record { fits = are .1 .1 .1 .1 .1 .0 .0 .1 .0 }, tt)))) $
+        assigns ! (addr ! (from ! (fld ! refl (hop ! (look-in ! 30 (sub ! 0 refl (whole !))) (stop !))))) (from ! (stop !)) (init ! 14 refl (tt, tt)) $
+        assigns ! (agg ! (and-then ! (load ! (from ! (stop !)) (look ! 14 refl)) (and-then ! (load ! (from ! (fld ! refl (stop !))) (look-in ! 30 (sub ! 1 refl (whole !)))) (no-more !)))) (from ! (stop !)) (init ! 12 refl (tt, (tt, (record { fits = are .1 .1 .1 .1 .1 .1 .0 .0 .1 .0 }, tt)))) $
+        assigns ! (addr ! (from ! (fld ! refl (hop ! (look-in ! 28 (sub ! 0 refl (whole !))) (stop !))))) (from ! (stop !)) (init ! 10 refl (tt, tt)) $
+        assigns ! (agg ! (and-then ! (load ! (from ! (stop !)) (look ! 10 refl)) (and-then ! (load ! (from ! (fld ! refl (stop !))) (look-in ! 28 (sub ! 1 refl (whole !)))) (no-more !)))) (from ! (stop !)) (init ! 8 refl (tt, (tt, (record { fits = are .1 .1 .1 .1 .1 .1 .1 .0 .0 .1 .0 }, tt)))) $
         -- the core is called
         move ! (0 ∷ 6 ∷ 5 ∷ 7 ∷ []) $
         fjoin ! $
         move ! (1 ∷ 0 ∷ []) $
         use3 W (raw (Callee 𝓤 H A at-mem run .pre to-core)) goes $
-        calls-at ! fm (Callee 𝓤 H A at-mem run) known to-core (and-then ! (load ! (from ! (stop !)) (look ! 17 {τ = Deskᴸ.mir} refl)) (and-then ! (load ! (from ! (stop !)) (look ! 31 {τ = DeskCallᴸ.mir} refl)) (and-then ! (load ! (from ! (stop !)) (look ! 29 refl)) (and-then ! (load ! (from ! (stop !)) (look ! 27 refl)) (and-then ! (load ! (from ! (stop !)) (look ! 13 refl)) (and-then ! (load ! (from ! (stop !)) (look ! 9 refl)) (and-then ! (load ! (from ! (stop !)) (look ! 5 refl)) (no-more !)))))))) (λ w.
-        use1 W (later (some (λ (r : Outcome). ((‵ (flft (κs .1 .0) (qs .1 .0)) ⊛ ‵ (flft (κs .1 .1 .0) (qs .1 .1 .0)) ⊛ ‵ (flft (κs .1 .1 .1 .0) (qs .1 .1 .1 .0)) ⊛ ‵ (flft (κs .1 .1 .1 .1 .0) (qs .1 .1 .1 .1 .0)) ⊛ ‵ ftrue) ⊛ ‵ (Outcomeᵀ.the-row .own r (w ∷ []))) ⊛ raw (ensured 𝓤 H A callee.ended (callee.clauses 𝓤 H A at-mem run) (κs .1) (h, a .1) tt r)))) (id⊢ 𝓤 _) $ await ! tt $ pick ! (λ r. split ! $
+        calls-at ! fm (Callee 𝓤 H A at-mem run) known to-core (and-then ! (load ! (from ! (stop !)) (look ! 21 {τ = Deskᴸ.mir} refl)) (and-then ! (load ! (from ! (stop !)) (look ! 37 {τ = DeskCallᴸ.mir} refl)) (and-then ! (load ! (from ! (stop !)) (look ! 35 refl)) (and-then ! (load ! (from ! (stop !)) (look ! 33 refl)) (and-then ! (load ! (from ! (stop !)) (look ! 17 refl)) (and-then ! (load ! (from ! (stop !)) (look ! 13 refl)) (and-then ! (load ! (from ! (stop !)) (look ! 9 refl)) (and-then ! (load ! (from ! (stop !)) (look ! 5 refl)) (no-more !))))))))) (λ w.
+        use1 W (later (some (λ (r : Outcome). ((‵ (flft (κs .1 .0) (qs .1 .0)) ⊛ ‵ (flft (κs .1 .1 .0) (qs .1 .1 .0)) ⊛ ‵ (flft (κs .1 .1 .1 .0) (qs .1 .1 .1 .0)) ⊛ ‵ (flft (κs .1 .1 .1 .1 .0) (qs .1 .1 .1 .1 .0)) ⊛ ‵ (flft (κs .1 .1 .1 .1 .1 .0) (qs .1 .1 .1 .1 .1 .0)) ⊛ ‵ ftrue) ⊛ ‵ (Outcomeᵀ.the-row .own r (w ∷ []))) ⊛ raw (ensured 𝓤 H A callee.ended (callee.clauses 𝓤 H A at-mem run) (κs .1) (h, a .1) tt r)))) (id⊢ 𝓤 _) $ await ! tt $ pick ! (λ r. split ! $
         move ! (1 ∷ []) $
         use1 W (some (λ (zs : Lasts callee.ended (κs .1) (h, a .1)). ‵ (lasts callee.ended (κs .1) (h, a .1) zs) ⊛ raw (Ens r zs))) (id⊢ 𝓤 _) $ pick ! (λ zs. split ! $ fsplit ! $ drop ! $
         move ! (2 ∷ []) $
         split ! $
         move ! (1 ∷ []) $
         peeks ! Outcomeᵀ.the-row (Is Outcomeᵀ.the-row) (shows 𝓤 H A Outcomeᵀ.the-row) r (w ∷ []) (λ is.
-        land ! (from ! (stop !)) (init ! 22 {τ = Outcomeᴸ.mir} refl (LL.lawful Outcomeᵀ.the-type Outcomeᴸ.the-laws 𝓤 H A W .typed r _ is .0)) $
-        rewrite ! 22 (λ (u : Val). ‵ (fat fullShare Outcomeᴸ.mir l8 0 u)) (ap only (outcome-tells r _ is)) refl $
+        land ! (from ! (stop !)) (init ! 26 {τ = Outcomeᴸ.mir} refl (LL.lawful Outcomeᵀ.the-type Outcomeᴸ.the-laws 𝓤 H A W .typed r _ is .0)) $
+        rewrite ! 26 (λ (u : Val). ‵ (fat fullShare Outcomeᴸ.mir l9 0 u)) (ap only (outcome-tells r _ is)) refl $
         -- the outcome's desk is stored, then its answer
-        assigns ! (of-opd ! (load ! (from ! (fld ! {τ = Deskᴸ.mir} {d = desk-offset} refl (stop !))) (look-in ! 22 (sub ! {τs = outcome-types} {vs = outcome-parts r} 1 {τ = Deskᴸ.mir} {d = desk-offset} refl (whole !))))) (from ! (hop ! (look ! 36 refl) (stop !))) (store-raw ! 4 {τ = Deskᴸ.mir} refl (LL.lawful Deskᵀ.the-type Deskᴸ.the-laws 𝓤 H A W .typed (r .desk) _ (parts-of r _ is .1) .0)) $
-        assigns ! (of-opd ! (load ! (from ! (fld ! {τ = Answerᴸ.mir} {d = 0} refl (stop !))) (look-in ! 22 (sub ! {τs = outcome-types} {vs = outcome-parts r} 0 {τ = Answerᴸ.mir} {d = 0} refl (whole !))))) (from ! (stop !)) (init ! 38 {τ = Answerᴸ.mir} refl (EL.lawful Answerᵀ.the-type Answerᴸ.the-laws 𝓤 H A W tt .typed (r .answer) _ (parts-of r _ is .0) .0)) $
+        assigns ! (of-opd ! (load ! (from ! (fld ! {τ = Deskᴸ.mir} {d = desk-offset} refl (stop !))) (look-in ! 26 (sub ! {τs = outcome-types} {vs = outcome-parts r} 1 {τ = Deskᴸ.mir} {d = desk-offset} refl (whole !))))) (from ! (hop ! (look ! 42 refl) (stop !))) (store-raw ! 4 {τ = Deskᴸ.mir} refl (LL.lawful Deskᵀ.the-type Deskᴸ.the-laws 𝓤 H A W .typed (r .desk) _ (parts-of r _ is .1) .0)) $
+        assigns ! (of-opd ! (load ! (from ! (fld ! {τ = Answerᴸ.mir} {d = 0} refl (stop !))) (look-in ! 26 (sub ! {τs = outcome-types} {vs = outcome-parts r} 0 {τ = Answerᴸ.mir} {d = 0} refl (whole !))))) (from ! (stop !)) (init ! 44 {τ = Answerᴸ.mir} refl (EL.lawful Answerᵀ.the-type Answerᴸ.the-laws 𝓤 H A W tt .typed (r .answer) _ (parts-of r _ is .0) .0)) $
         -- the borrow is closed at the outcome's desk
         drop ! $ owned ! Deskᵀ.the-row (Is Deskᵀ.the-row) (LL.makes Deskᵀ.the-type Deskᴸ.the-plain 𝓤 H A) (r .desk) _ (parts-of r _ is .1) $
         move ! (4 ∷ 0 ∷ 5 ∷ 6 ∷ 7 ∷ []) $
         closes ! tt Deskᵀ.the-row (r .desk) (desk-vals (r .desk)) b o $
-        returns ! (look ! 36 {τ = Answerᴸ.mir} refl) $
-        forget ! 36 {τ = Answerᴸ.mir} refl $
+        returns ! (look ! 42 {τ = Answerᴸ.mir} refl) $
+        forget ! 42 {τ = Answerᴸ.mir} refl $
+        forget ! 40 refl $
+        forget ! 38 {τ = DeskCallᴸ.mir} refl $
+        forget ! 36 refl $
         forget ! 34 refl $
-        forget ! 32 {τ = DeskCallᴸ.mir} refl $
+        forget ! 32 refl $
         forget ! 30 refl $
         forget ! 28 refl $
         forget ! 26 refl $
-        forget ! 24 refl $
-        forget ! 22 refl $
-        forget ! 20 {τ = Outcomeᴸ.mir} refl $
-        forget ! 18 {τ = Deskᴸ.mir} refl $
+        forget ! 24 {τ = Outcomeᴸ.mir} refl $
+        forget ! 22 {τ = Deskᴸ.mir} refl $
+        forget ! 20 refl $
+        forget ! 18 refl $
         forget ! 16 refl $
         forget ! 14 refl $
         forget ! 12 refl $
         forget ! 10 refl $
         forget ! 8 refl $
         forget ! 6 refl $
+        move ! (42 ∷ 43 ∷ []) $
+        free1 ! $
+        move ! (40 ∷ 41 ∷ []) $
+        free1 ! $
+        move ! (38 ∷ 39 ∷ []) $
+        free1 ! $
         move ! (36 ∷ 37 ∷ []) $
         free1 ! $
         move ! (34 ∷ 35 ∷ []) $
@@ -244,12 +259,12 @@ module _ {M : Type 1} (𝓤 : URA M) (H : Heap 𝓤) (A : Atoms 𝓤) (W : Given
         move ! (6 ∷ 7 ∷ []) $
         free1 ! $
         free0 ! $
-        keep ! (0 ∷ 1 ∷ 2 ∷ 3 ∷ 4 ∷ 5 ∷ []) $ by ! (exits r zs (parts-of r _ is .0))))))))))))))))))))))))
+        keep ! (0 ∷ 1 ∷ 2 ∷ 3 ∷ 4 ∷ 5 ∷ []) $ by ! (exits r zs (parts-of r _ is .0)))))))))))))))))))))))))))
 
 meets : {M : Type 1} (𝓤 : URA M) (H : Heap 𝓤) (A : Atoms 𝓤) (W : Given 𝓤 H A) (at-mem : Memory → SProp 𝓤) (run : Routine → Fun 𝓤) (𝓣 : Tables 𝓤 H) → Triple 𝓤 (𝓣 .C #callee) (Callee 𝓤 H A at-mem run)
     → Meets 𝓤 H A here.signature (WpFn 𝓤 H (𝓣 .C) (𝓣 .Λ) code.function) (here.spec 𝓤 H A at-mem run)
 meets 𝓤 H A W at-mem run 𝓣 known =
-    walk-meets 𝓤 H A here.ended stayed W (goes-ref 𝓤 H A W 5 0 tt (plain (λ _. Deskᵀ.the-row)), (said-goes 𝓤 H A W 5 (plain (λ _. DeskCallᵀ.the-row)), (said-goes 𝓤 H A W 5 (plain (λ _. Array u64 17)), (said-goes 𝓤 H A W 5 (shrSliceOf (1 ∷ []) tt (plain (λ _. u64))), (said-goes 𝓤 H A W 5 (mutSliceOf (2 ∷ []) tt (plain (λ _. u64))), (said-goes 𝓤 H A W 5 (mutSliceOf (3 ∷ []) tt (plain (λ _. u64))), (said-goes 𝓤 H A W 5 (mutSliceOf (4 ∷ []) tt (plain (λ _. u64))), tt)))))))
+    walk-meets 𝓤 H A here.ended stayed W (goes-ref 𝓤 H A W 6 0 tt (plain (λ _. Deskᵀ.the-row)), (said-goes 𝓤 H A W 6 (plain (λ _. DeskCallᵀ.the-row)), (said-goes 𝓤 H A W 6 (plain (λ _. Array u64 17)), (said-goes 𝓤 H A W 6 (shrSliceOf (1 ∷ []) tt (plain (λ _. u64))), (said-goes 𝓤 H A W 6 (mutSliceOf (2 ∷ []) tt (plain (λ _. u64))), (said-goes 𝓤 H A W 6 (mutSliceOf (3 ∷ []) tt (plain (λ _. u64))), (said-goes 𝓤 H A W 6 (mutSliceOf (4 ∷ []) tt (plain (λ _. u64))), (said-goes 𝓤 H A W 6 (mutSliceOf (5 ∷ []) tt (plain (λ _. u64))), tt))))))))
     (here.clauses 𝓤 H A at-mem run) (WpFn 𝓤 H (𝓣 .C) (𝓣 .Λ) code.function) (WpFn-mono 𝓤 H (W .laws) 𝓣 code.function)
     (walked 𝓤 H A here.ended stayed (here.clauses 𝓤 H A at-mem run) (WpFn 𝓤 H (𝓣 .C) (𝓣 .Λ) code.function) spelled telling
     (λ κs qs bounds a g are. walk 𝓤 H A W at-mem run κs qs a are (𝓣 .C) (𝓣 .Λ) (fmOf 𝓤 H (W .laws) 𝓣) known))

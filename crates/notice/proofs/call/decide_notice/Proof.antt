@@ -5,11 +5,11 @@ use borrow.Author.Tests.{not-false, not-true}
 use Rattle.state.specs.Desk.{versionsIn}
 use Rattle.state.specs.Valid.{validDesk}
 use Rattle.state.proofs.Bounds.{sound}
-use Rattle.model.specs.Call.{notices, told}
+use Rattle.model.specs.Call.{notices, lengthsOf, told}
 use Rattle.model.specs.Log.{turnOf, dueBy, due}
 use Rattle.model.specs.declared.Turn.{Turn}
 use Rattle.checks.specs.Stepped.{lent, storing}
-use Rattle.checks.proofs.Deciding.{unfit, fit, unmoved, all-refused, all-granted}
+use Rattle.checks.proofs.Deciding.{noLengths, unfit, fit, unmoved, all-refused, all-granted}
 use Rattle.notice.specs.Notice.{noticedIn}
 use Rattle.notice.proofs.Noticing.{turned, notice-allowed, notice-stepped}
 use borrow.Author.Needs.{needs}
@@ -72,7 +72,7 @@ notice-granted-requires c κs =
     let s = c .before .before .before .before .before .before .before .before .before .before .before .before .before .before in
     let a = s .args in
     notice-allowed (a .d) (a .point .0) (a .version .0) (a .verdict) (a .day .0) (a .values .now) (a .book .now) (a .log .now) _ _ _ (sound (a .d) (valid (c .before .before .before .before .before .before .before .before))) (s .pre .table) (s .pre .survey refl .held) (turn-is (c .before .before .before .before .before .before)) (due-is (c .before .before .before .before .before)) (s .pre .here)
-    (sym (c .before .before .before .before .notice-ruling .ensures) ∙ c .before .before .enum-told .given .1)
+    (sym (c .before .before .before .before .notice-ruling .ensures noLengths) ∙ c .before .before .enum-told .given .1)
 
 accept-requires : tie.Need-accept-requires
 accept-requires c κs = search needs
@@ -85,7 +85,7 @@ returns-2 c =
       u .0,
       λ s.
           let stores = storing s (a .values .now) (a .book .now) (a .log .now) in
-          all-refused (a .d) call stores (c .before .before .before .before .notice-ruling .ensures ∙ sym (fit (a .d) (told (lent call stores)) refl (valid (c .before .before .before .before .before .before .before .before)))) (c .before .before .decided .given .1) (u .1),
+          all-refused (a .d) call stores (c .before .before .before .before .notice-ruling .ensures (lengthsOf s) ∙ sym (fit (a .d) (told (lent call stores)) refl (valid (c .before .before .before .before .before .before .before .before)))) (c .before .before .decided .given .1) (u .1),
     )
 
 same-length : tie.Need-same-length
@@ -100,12 +100,12 @@ returns-3 c =
     let a = p .args in
     let call = notices (a .point .0) (a .version .0) (a .verdict) (a .day .0) in
     let g = c .before .before .before .before .before .notice-granted .ensures in
-    let stepped = notice-stepped (a .d) (a .point .0) (a .version .0) (a .verdict) (a .day .0) (a .values .now) (a .book .now) (a .log .now) _ _ _ (sound (a .d) (valid (c .before .before .before .before .before .before .before .before .before .before .before .before .before .before))) (p .pre .table) (p .pre .survey refl .held) (turn-is (c .before .before .before .before .before .before .before .before .before .before .before .before)) (due-is (c .before .before .before .before .before .before .before .before .before .before .before)) (p .pre .here) g in
     rw (c .accept .ensures .0, c .accept .ensures .1) (
       g .fits,
       λ s.
           let stores = storing s (a .values .now) (a .book .now) (a .log .now) in
-          all-granted (a .d) call stores (c .before .before .before .before .before .before .before .before .before .before .notice-ruling .ensures ∙ sym (fit (a .d) (told (lent call stores)) refl (valid (c .before .before .before .before .before .before .before .before .before .before .before .before .before .before)))) (c .before .before .before .before .before .before .before .before .enum-told .given .1) stepped,
+          all-granted (a .d) call stores (c .before .before .before .before .before .before .before .before .before .before .notice-ruling .ensures (lengthsOf s) ∙ sym (fit (a .d) (told (lent call stores)) refl (valid (c .before .before .before .before .before .before .before .before .before .before .before .before .before .before)))) (c .before .before .before .before .before .before .before .before .enum-told .given .1)
+          (notice-stepped (a .d) (a .point .0) (a .version .0) (a .verdict) (a .day .0) (a .values .now) (a .book .now) (a .log .now) _ _ _ (sound (a .d) (valid (c .before .before .before .before .before .before .before .before .before .before .before .before .before .before))) (p .pre .table) (p .pre .survey refl .held) (turn-is (c .before .before .before .before .before .before .before .before .before .before .before .before)) (due-is (c .before .before .before .before .before .before .before .before .before .before .before)) s (p .pre .here) g),
     )
 
 pub decide-notice-spec : {M : Type 1} → statement M

@@ -68,13 +68,13 @@ or-if-requires-10 c κs = search needs
 
 returns : tie.Need-returns
 unfolding firstOf fold
-returns c =
+returns c m =
     let s = c .before .before .before .before .before .before .before .before .before .before .before .before .before .before .before .before .before .before .before .before .before .before .before .before .before .before .before in
     let a = s .args in
     let f = s .pre .1 .0 .survey refl in
     let here = s .pre .1 .0 .here in
     let k0 = checked NotOpen (c .before .before .before .before .before .before .before .before .before .before .before .before .before .before .before .before .before .before .before .before .before .before .or-if .ensures) refl (ap not (c .before .before .before .before .before .before .before .before .before .before .before .before .before .before .before .before .before .before .before .before .before .before .before .is-open .ensures)) in
-    let k1 = checked WrongLength (c .before .before .before .before .before .before .before .before .before .before .before .before .before .before .before .before .before .before .before .before .or-if2 .ensures) k0 (c .before .before .before .before .before .before .before .before .before .before .before .before .before .before .before .before .before .before .before .before .before .other-lengths .ensures) in
+    let k1 = checked WrongLength (c .before .before .before .before .before .before .before .before .before .before .before .before .before .before .before .before .before .before .before .before .or-if2 .ensures) k0 (c .before .before .before .before .before .before .before .before .before .before .before .before .before .before .before .before .before .before .before .before .before .other-lengths .ensures m) in
     let k2 = checked BadField (c .before .before .before .before .before .before .before .before .before .before .before .before .before .before .before .before .before .before .or-if3 .ensures) k1 (ap not (c .before .before .before .before .before .before .before .before .before .before .before .before .before .before .before .before .before .before .before .notice-ok .ensures)) in
     let k3 = checked PastDay (c .before .before .before .before .before .before .before .before .before .before .before .before .before .before .before .or-if4 .ensures) k2 refl in
     let k4 = checked AfterCorrection (c .before .before .before .before .before .before .before .before .before .before .before .before .or-if5 .ensures) k3 refl in

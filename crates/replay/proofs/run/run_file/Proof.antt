@@ -33,19 +33,19 @@ groups-read : {r q : Reading} → r ≡ q → r .groups ≡ q .groups
 groups-read e = rw e
 
 abbrev Inv-loop : tie.InvT-loop
-Inv-loop file values₀ book₀ log₀ series₀ answers₀ desk₀ at₀ answered₀ values book log series answers desk at answered =
-    Going file (starting (storesOf values₀ book₀ log₀) series₀ answers₀) (playingOf desk (storesOf values book log) series answers answered) at
+Inv-loop file values₀ book₀ log₀ schedules₀ series₀ answers₀ desk₀ at₀ answered₀ values book log schedules series answers desk at answered =
+    Going file (starting (storesOf values₀ book₀ log₀ schedules₀) series₀ answers₀) (playingOf desk (storesOf values book log schedules) series answers answered) at
 
 abbrev μ-loop : tie.MeasureT-loop
-μ-loop file values₀ book₀ log₀ series₀ answers₀ desk₀ at₀ answered₀ values book log series answers desk at answered =
+μ-loop file values₀ book₀ log₀ schedules₀ series₀ answers₀ desk₀ at₀ answered₀ values book log schedules series answers desk at answered =
     length answers₀ - answered
 
 -- a record is put at a place of its table
 point-place : (c : tie.After-tables Inv-loop μ-loop) → c .tables .given .0 .0 < 256
-point-place c = rw (c .tables .given .1) at (c .before .before .before .before .before .before .before .before .before .before .before .lend-call .ensures .0)
+point-place c = rw (c .tables .given .1) at (c .before .before .before .before .before .before .before .before .before .before .before .before .before .lend-call .ensures .0)
 
 version-place : (c : tie.After-tables2 Inv-loop μ-loop) → c .tables2 .given .0 .0 < 512
-version-place c = rw (c .tables2 .given .1) at (c .before .before .before .before .before .before .before .before .before .before .before .lend-call .ensures .0)
+version-place c = rw (c .tables2 .given .1) at (c .before .before .before .before .before .before .before .before .before .before .before .before .before .lend-call .ensures .0)
 
 -- and the record of the point that the call names stands in its own
 inside : (p : ℕ) {n : ℕ} → n ≡ placeOf p → n < 256
@@ -84,6 +84,9 @@ same-length-4 c = search needs
 same-length-5 : tie.Need-same-length-5 Inv-loop μ-loop
 same-length-5 c = search needs
 
+same-length-6 : tie.Need-same-length-6 Inv-loop μ-loop
+same-length-6 c = search needs
+
 returns : tie.Need-returns Inv-loop μ-loop
 returns c =
     let read = c .before .before .before .before .before in
@@ -114,21 +117,21 @@ part-lend-call-end c =
 
 lend-call-requires : tie.Need-lend-call-requires Inv-loop μ-loop
 lend-call-requires c κs =
-    let l = c .before .before .before .before .before .before .before .before .before .before .before .before .before .before .before .before .loop in
-    (within _ _ (l .inv .reached), ap (λ (n : ℕ). getD (l .desk .points) n freePoint) (c .before .before .before .before .before .before .place-in .ensures _ _))
+    let l = c .before .before .before .before .before .before .before .before .before .before .before .before .before .before .before .before .before .loop in
+    (within _ _ (l .inv .reached), ap (λ (n : ℕ). getD (l .desk .points) n freePoint) (c .before .before .before .before .before .before .before .place-in .ensures _ _))
 
 number-of-requires : tie.Need-number-of-requires Inv-loop μ-loop
 number-of-requires c κs = search needs
 
 mul-answers : tie.Need-mul-answers Inv-loop μ-loop
 mul-answers c =
-    let turn = c .before .before .before .before .before .before .before .before .before .before .before .before .before .before .before .before .before .before .before .before .before .before .before in
-    omega (arith, turn .loop-test .taken, turn .before .loop .inv .sized .answers, turn .before .before .before .before .before .before .before .before .before .good .1 .1 .1 .1 .1 .0)
+    let turn = c .before .before .before .before .before .before .before .before .before .before .before .before .before .before .before .before .before .before .before .before .before .before .before .before .before .before in
+    omega (arith, turn .loop-test .taken, turn .before .loop .inv .sized .answers, turn .before .before .before .before .before .before .before .before .before .before .good .1 .1 .1 .1 .1 .1 .0)
 
 slice-write-answers : tie.Need-slice-write-answers Inv-loop μ-loop
 slice-write-answers c =
-    let turn = c .before .before .before .before .before .before .before .before .before .before .before .before .before .before .before .before .before .before .before .before .before .before .before in
-    omega (arith, turn .loop-test .taken, turn .before .loop .inv .sized .answers, turn .before .before .before .before .before .before .before .before .before .good .1 .1 .1 .1 .1 .0)
+    let turn = c .before .before .before .before .before .before .before .before .before .before .before .before .before .before .before .before .before .before .before .before .before .before .before .before .before .before in
+    omega (arith, turn .loop-test .taken, turn .before .loop .inv .sized .answers, turn .before .before .before .before .before .before .before .before .before .before .good .1 .1 .1 .1 .1 .1 .0)
 
 enum-told : tie.Need-enum-told Inv-loop μ-loop
 enum-told c = search needs
@@ -159,38 +162,35 @@ enum-known-tables-3 c = search needs
 
 settled-versions-requires : tie.Need-settled-versions-requires Inv-loop μ-loop
 settled-versions-requires c κs =
-    let d = c .before .before .before .before .before .before .before .before .before .before .before .before .before .before .before .before .before .before .before .before .before .before .before .before .before .before .before .before .before .before .loop .desk in
-    let v = sound d (rw (c .before .before .tables3 .given .1) at (c .before .before .before .before .before .before .before .before .before .before .before .before .before .lend-call .ensures .0)) in
+    let d = c .before .before .before .before .before .before .before .before .before .before .before .before .before .before .before .before .before .before .before .before .before .before .before .before .before .before .before .before .before .before .before .before .before .loop .desk in
+    let v = sound d (rw (c .before .before .tables3 .given .1) at (c .before .before .before .before .before .before .before .before .before .before .before .before .before .before .before .lend-call .ensures .0)) in
     (v .count, points-in d v)
 
 add-answered : tie.Need-add-answered Inv-loop μ-loop
 add-answered c =
-    let turn = c .before .before .before .before .before .before .before .before .before .before .before .before .before .before .before .before .before .before .before .before .before .before .before .before .before .before in
-    omega (arith, turn .loop-test .taken, turn .before .loop .inv .sized .answers, turn .before .before .before .before .before .before .before .before .before .good .1 .1 .1 .1 .1 .0)
+    let turn = c .before .before .before .before .before .before .before .before .before .before .before .before .before .before .before .before .before .before .before .before .before .before .before .before .before .before .before .before .before in
+    omega (arith, turn .loop-test .taken, turn .before .loop .inv .sized .answers, turn .before .before .before .before .before .before .before .before .before .before .good .1 .1 .1 .1 .1 .1 .0)
 
 loop-less : tie.Need-loop-less Inv-loop μ-loop
 loop-less c =
-    let turn = c .before .before .before .before .before .before .before .before .before .before .before .before .before .before .before .before .before .before .before .before .before .before .before .before .before .before in
-    omega (arith, turn .loop-test .taken, turn .before .loop .inv .sized .answers, turn .before .before .before .before .before .before .before .before .before .good .1 .1 .1 .1 .1 .0)
+    let turn = c .before .before .before .before .before .before .before .before .before .before .before .before .before .before .before .before .before .before .before .before .before .before .before .before .before .before .before .before .before in
+    omega (arith, turn .loop-test .taken, turn .before .loop .inv .sized .answers, turn .before .before .before .before .before .before .before .before .before .before .good .1 .1 .1 .1 .1 .1 .0)
 
 loop-again : tie.Need-loop-again Inv-loop μ-loop
 loop-again c =
-    let handed = c .before .before .before .before .before .before .before .before .before .before in
-    let read = c .before .before .before .before .before .before .before .before .before .before .before .before .before .before .before .before .before .before .before .before .before .before .before .before in
-    let turn = c .before .before .before .before .before .before .before .before .before .before .before .before .before .before .before .before .before .before .before .before .before .before .before .before .before .before in
+    let handed = c .before .before .before .before .before .before .before .before .before .before .before .before in
+    let read = c .before .before .before .before .before .before .before .before .before .before .before .before .before .before .before .before .before .before .before .before .before .before .before .before .before .before .before in
+    let turn = c .before .before .before .before .before .before .before .before .before .before .before .before .before .before .before .before .before .before .before .before .before .before .before .before .before .before .before .before .before in
     let g = turn .before .loop .inv in
     let d = turn .before .loop .desk in
     let e = handed .lend-call .result .effect in
     let tables : (c .match2 .desk .points ≡ pointsBy d (e .tables)) × (c .match2 .desk .versions ≡ versionsBy d (e .tables)) =
     ⊎-elim (λ w. rw (w .2, w .1 .given .1) (refl, refl)) (⊎-elim (λ w. let e = still-fresh _ _ (g .reached) (rw (w .1 .given .1) at (handed .lend-call .ensures .0)) in rw (w .2, w .1 .given .1) (ap (λ (x : Desk). x .points) e, ap (λ (x : Desk). x .versions) e)) (⊎-elim (λ w. rw (w .3, w .1 .given .1) (refl, refl)) (⊎-elim (λ w. rw (w .3, w .1 .given .1) (refl, refl)) (λ w. rw (w .5, w .4 .ensures, w .1 .given .1) (refl, refl))))) (c .match2 .came) in
-    again g (omega (arith, turn .loop-test .taken, g .sized .answers)) (step-read (read .read-call .ensures .0) ∙ c .before .before .before .before .before .before .before .before .before .before .before .before .before .before .before .before .before .before .before .step .given .1) (groups-read (read .read-call .ensures .0)) (read .read-call .ensures .1) (handed-as (applied d (c .match2 .desk) e tables) (handed .lend-call .ensures .1)) (c .before .before .before .number-of .ensures)
-    (record { values = c .before .before .before .before .before .before .before .before .before .values .given; book = c .before .before .before .before .before .before .before .book .given; log = c .before .before .before .before .before .log .given; series = c .before .before .before .before .before .before .before .before .before .before .before .before .before .before .before .before .before .before .before .before .before .before .before .series .given; answers = simp length-set })
+    again g (omega (arith, turn .loop-test .taken, g .sized .answers)) (step-read (read .read-call .ensures .0) ∙ c .before .before .before .before .before .before .before .before .before .before .before .before .before .before .before .before .before .before .before .before .before .before .step .given .1) (groups-read (read .read-call .ensures .0)) (read .read-call .ensures .1) (handed-as (applied d (c .match2 .desk) e tables) (handed .lend-call .ensures .1)) (c .before .before .before .number-of .ensures)
+    (record { values = c .before .before .before .before .before .before .before .before .before .before .before .values .given; book = c .before .before .before .before .before .before .before .before .before .book .given; log = c .before .before .before .before .before .before .before .log .given; schedules = c .before .before .before .before .before .schedules .given; series = c .before .before .before .before .before .before .before .before .before .before .before .before .before .before .before .before .before .before .before .before .before .before .before .before .before .before .series .given; answers = simp length-set })
 
 ended-at-requires : tie.Need-ended-at-requires Inv-loop μ-loop
 ended-at-requires c κs = search needs
-
-same-length-6 : tie.Need-same-length-6 Inv-loop μ-loop
-same-length-6 c = search needs
 
 same-length-7 : tie.Need-same-length-7 Inv-loop μ-loop
 same-length-7 c = search needs
@@ -203,6 +203,12 @@ same-length-9 c = search needs
 
 same-length-10 : tie.Need-same-length-10 Inv-loop μ-loop
 same-length-10 c = search needs
+
+same-length-11 : tie.Need-same-length-11 Inv-loop μ-loop
+same-length-11 c = search needs
+
+same-length-12 : tie.Need-same-length-12 Inv-loop μ-loop
+same-length-12 c = search needs
 
 returns-2 : tie.Need-returns-2 Inv-loop μ-loop
 returns-2 c =
@@ -225,6 +231,7 @@ run-file-spec =
     same-length-3
     same-length-4
     same-length-5
+    same-length-6
     returns
     place-in-requires
     mul-p
@@ -250,9 +257,10 @@ run-file-spec =
     loop-less
     loop-again
     ended-at-requires
-    same-length-6
     same-length-7
     same-length-8
     same-length-9
     same-length-10
+    same-length-11
+    same-length-12
     returns-2)

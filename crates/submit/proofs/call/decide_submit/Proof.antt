@@ -7,11 +7,11 @@ use Rattle.quantity.specs.Word.{signed}
 use Rattle.state.specs.Desk.{versionsIn}
 use Rattle.state.specs.Valid.{validDesk}
 use Rattle.state.proofs.Bounds.{sound}
-use Rattle.model.specs.Call.{submits, told}
+use Rattle.model.specs.Call.{submits, lengthsOf, told}
 use Rattle.model.specs.Log.{turnOf, dueBy, due}
 use Rattle.model.specs.declared.Turn.{Turn}
 use Rattle.checks.specs.Stepped.{lent, storing}
-use Rattle.checks.proofs.Deciding.{unfit, fit, unmoved, all-refused, all-granted}
+use Rattle.checks.proofs.Deciding.{noLengths, unfit, fit, unmoved, all-refused, all-granted}
 use Rattle.submit.specs.Submit.{submittedIn, Granted}
 use Rattle.submit.proofs.Submitting.{length-held, turned, submit-allowed}
 use borrow.Author.Needs.{needs}
@@ -40,7 +40,7 @@ passed c =
     let s = c .before .before .before .before .before .before .before .before .before .before .before .before .before in
     let a = s .args in
     submit-allowed (a .d) (a .point .0) (a .version .0) (a .day .0) (a .series .now) (a .values .now) (a .book .now) (a .log .now) _ _ (sound (a .d) (valid (c .before .before .before .before .before .before))) (s .pre .table) (turn-is (c .before .before .before .before)) (due-is (c .before .before .before))
-    (sym (c .before .before .submit-ruling .ensures) ∙ c .enum-told .given .1) (s .pre .here)
+    (sym (c .before .before .submit-ruling .ensures noLengths) ∙ c .enum-told .given .1) (s .pre .here)
 
 refuse-requires : tie.Need-refuse-requires
 refuse-requires c κs = search needs
@@ -98,7 +98,7 @@ returns-2 c =
       u .0,
       λ s.
           let stores = storing s (a .values .now) (a .book .now) (a .log .now) in
-          all-refused (a .d) call stores (c .before .before .before .before .submit-ruling .ensures ∙ sym (fit (a .d) (told (lent call stores)) refl (valid (c .before .before .before .before .before .before .before .before)))) (c .before .before .ruling .given .1) (u .1),
+          all-refused (a .d) call stores (c .before .before .before .before .submit-ruling .ensures (lengthsOf s) ∙ sym (fit (a .d) (told (lent call stores)) refl (valid (c .before .before .before .before .before .before .before .before)))) (c .before .before .ruling .given .1) (u .1),
     )
 
 same-length : tie.Need-same-length
@@ -119,7 +119,7 @@ returns-3 c =
       g .0,
       λ s.
           let stores = storing s (a .values .now) (a .book .now) (a .log .now) in
-          all-granted (a .d) call stores (c .before .before .before .before .before .before .before .before .before .before .before .before .before .before .before .submit-ruling .ensures ∙ sym (fit (a .d) (told (lent call stores)) refl (valid (c .before .before .before .before .before .before .before .before .before .before .before .before .before .before .before .before .before .before .before)))) (c .before .before .before .before .before .before .before .before .before .before .before .before .before .enum-told .given .1) (g .1),
+          all-granted (a .d) call stores (c .before .before .before .before .before .before .before .before .before .before .before .before .before .before .before .submit-ruling .ensures (lengthsOf s) ∙ sym (fit (a .d) (told (lent call stores)) refl (valid (c .before .before .before .before .before .before .before .before .before .before .before .before .before .before .before .before .before .before .before)))) (c .before .before .before .before .before .before .before .before .before .before .before .before .before .enum-told .given .1) (g .1 s),
     )
 
 pub decide-submit-spec : {M : Type 1} → statement M

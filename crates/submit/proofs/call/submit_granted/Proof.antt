@@ -13,14 +13,15 @@ use Rattle.state.proofs.Bounds.{state-in, rows-fit, fit-rows}
 use Rattle.model.specs.Series.{sidesOf}
 use Rattle.model.specs.Step.{amendBy, amended, versionBy}
 use Rattle.model.specs.declared.Turn.{Turn}
+use Rattle.amend.proofs.Stored.{words-signed}
 use Rattle.amend.proofs.Within.{turn-in}
 use Rattle.submit.specs.Submit.{submittedIn}
-use Rattle.submit.proofs.Submitting.{submitted-ok, words-signed}
+use Rattle.submit.proofs.Submitting.{submitted-ok}
 use borrow.Author.Needs.{needs}
 use Rattle.submit.proofs.call.submit_granted.Statement.{statement}
 use Rattle.submit.proofs.call.submit_granted.Tie as tie
 
-kept : (c : tie.After-values) → length (c .before .store .last .0) ≡ length (c .before .before .before .before .before .before .before .before .before .args .values .now)
+kept : (c : tie.After-values) → length (c .before .put-series .last .0) ≡ length (c .before .before .before .before .before .before .before .before .before .args .values .now)
 kept c = search needs
 
 mul-start : tie.Need-mul-start
@@ -30,8 +31,8 @@ mul-start c =
     let h : s .args .d .frame .count ≤ 512 = omega (arith, g .more) in
     omega (arith, mul-le-mul-right (s .args .d .frame .opening .quarters) h, g .sound .most)
 
-store-requires : tie.Need-store-requires
-store-requires c κs = search needs
+put-series-requires : tie.Need-put-series-requires
+put-series-requires c κs = search needs
 
 follow-requires : tie.Need-follow-requires
 follow-requires c κs =
@@ -43,7 +44,7 @@ follow-requires c κs =
     let n = rowsIn o in
     let next : d .frame .count + 1 ≤ n = fit-rows o (g .sound .quarters) (d .frame .count + 1) (g .room) in
     let fits : n * o .quarters ≤ o .values = rows-fit o (g .sound .quarters) n (omega arith) in
-    let stored = c .before .before .before .before .before .store .last .0 in
+    let stored = c .before .before .before .before .before .put-series .last .0 in
     let long : length stored ≡ o .values = omega (arith, g .long, kept (c .before .before .before .before)) in
     let ok = submitted-ok d (a .v .point .0) (a .v .version .0) (a .day .0) (g .sound) (g .point) (g .version) (omega arith) in (
       record {
@@ -82,10 +83,10 @@ returns c =
     let f = c .before .before .before .before .before .follow .ensures in
     let e = c .put-version .ensures d refl in
     let words : map word (map signed x) ≡ x = words-signed x (λ i. omega (arith, c .before .before .before .before .before .before .before .before .before .before .before .before .before .before .before .before .before .before .shared-slice-known .given i)) in
-    let stored = c .before .before .before .before .before .before .before .before .before .before .before .store .last .0 in
-    let v : stored ≡ splice (a .values .now) (d .frame .count * d .frame .opening .quarters) (d .frame .opening .quarters) (map word (map signed x)) = rw words (c .before .before .before .before .before .before .before .before .before .before .before .store .ensures) in (
+    let stored = c .before .before .before .before .before .before .before .before .before .before .before .put-series .last .0 in
+    let v : stored ≡ splice (a .values .now) (d .frame .count * d .frame .opening .quarters) (d .frame .opening .quarters) (map word (map signed x)) = rw words (c .before .before .before .before .before .before .before .before .before .before .before .put-series .ensures) in (
       e .0,
-      record {
+      λ _. record {
         answered = refl;
         held =
             e .1
@@ -105,7 +106,7 @@ submit-granted-spec =
     tie.close
     (tie.spec
     mul-start
-    store-requires
+    put-series-requires
     follow-requires
     add-put-version
     put-version-requires

@@ -7,11 +7,11 @@ use Rattle.test_drive.proofs.script.drive_script.Statement.{statement}
 use Rattle.test_drive.proofs.script.drive_script.Tie as tie
 
 abbrev Inv-loop : tie.InvT-loop
-Inv-loop script values₀ book₀ log₀ out₀ desk₀ at₀ next₀ values book log out desk at next =
-    (at ≤ length script) × (length values ≡ length values₀) × (length book ≡ length book₀) × (length log ≡ length log₀) × (length out ≡ length out₀)
+Inv-loop script values₀ book₀ log₀ schedules₀ out₀ desk₀ at₀ next₀ values book log schedules out desk at next =
+    (at ≤ length script) × (length values ≡ length values₀) × (length book ≡ length book₀) × (length log ≡ length log₀) × (length schedules ≡ length schedules₀) × (length out ≡ length out₀)
 
 abbrev μ-loop : tie.MeasureT-loop
-μ-loop script values₀ book₀ log₀ out₀ desk₀ at₀ next₀ values book log out desk at next = length script - at
+μ-loop script values₀ book₀ log₀ schedules₀ out₀ desk₀ at₀ next₀ values book log schedules out desk at next = length script - at
 
 fresh-desk-requires : tie.Need-fresh-desk-requires Inv-loop μ-loop
 fresh-desk-requires c κs = search needs
@@ -46,20 +46,23 @@ same-length-3 c = search needs
 same-length-4 : tie.Need-same-length-4 Inv-loop μ-loop
 same-length-4 c = search needs
 
+same-length-5 : tie.Need-same-length-5 Inv-loop μ-loop
+same-length-5 c = search needs
+
 returns : tie.Need-returns Inv-loop μ-loop
 returns c = search needs
 
 add-at : tie.Need-add-at Inv-loop μ-loop
 add-at c = search needs
 
-sub-run-record : tie.Need-sub-run-record Inv-loop μ-loop
-sub-run-record c = search needs
+sub-record : tie.Need-sub-record Inv-loop μ-loop
+sub-record c = search needs
 
-part-run-record-start : tie.Need-part-run-record-start Inv-loop μ-loop
-part-run-record-start c = search needs
+part-record-start : tie.Need-part-record-start Inv-loop μ-loop
+part-record-start c = search needs
 
-part-run-record-end : tie.Need-part-run-record-end Inv-loop μ-loop
-part-run-record-end c = search needs
+part-record-end : tie.Need-part-record-end Inv-loop μ-loop
+part-record-end c = search needs
 
 run-record-requires : tie.Need-run-record-requires Inv-loop μ-loop
 run-record-requires c κs = search needs
@@ -70,9 +73,6 @@ loop-less c = search needs
 loop-again : tie.Need-loop-again Inv-loop μ-loop
 loop-again c = search needs
 
-same-length-5 : tie.Need-same-length-5 Inv-loop μ-loop
-same-length-5 c = search needs
-
 same-length-6 : tie.Need-same-length-6 Inv-loop μ-loop
 same-length-6 c = search needs
 
@@ -81,6 +81,12 @@ same-length-7 c = search needs
 
 same-length-8 : tie.Need-same-length-8 Inv-loop μ-loop
 same-length-8 c = search needs
+
+same-length-9 : tie.Need-same-length-9 Inv-loop μ-loop
+same-length-9 c = search needs
+
+same-length-10 : tie.Need-same-length-10 Inv-loop μ-loop
+same-length-10 c = search needs
 
 returns-2 : tie.Need-returns-2 Inv-loop μ-loop
 returns-2 c = search needs
@@ -102,16 +108,18 @@ drive-script-spec =
     same-length-2
     same-length-3
     same-length-4
+    same-length-5
     returns
     add-at
-    sub-run-record
-    part-run-record-start
-    part-run-record-end
+    sub-record
+    part-record-start
+    part-record-end
     run-record-requires
     loop-less
     loop-again
-    same-length-5
     same-length-6
     same-length-7
     same-length-8
+    same-length-9
+    same-length-10
     returns-2)

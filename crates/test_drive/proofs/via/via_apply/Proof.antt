@@ -64,19 +64,19 @@ use Rattle.test_drive.proofs.via.via_apply.Statement as stated
 use Rattle.test_drive.proofs.via.via_apply.Code as code
 
 abbrev stayed : Stays (here.ended .signature .params) (here.ended .kept)
-stayed = (said (plain (λ _. Deskᵀ.the-row)), (said (plain (λ _. DeskCallᵀ.the-row)), (said (plain (λ _. Array u64 17)), (said (shrSliceOf (0 ∷ []) tt (plain (λ _. u64))), (said (mutSliceOf (1 ∷ []) tt (plain (λ _. u64))), (said (mutSliceOf (2 ∷ []) tt (plain (λ _. u64))), (said (mutSliceOf (3 ∷ []) tt (plain (λ _. u64))), tt)))))))
+stayed = (said (plain (λ _. Deskᵀ.the-row)), (said (plain (λ _. DeskCallᵀ.the-row)), (said (plain (λ _. Array u64 17)), (said (shrSliceOf (0 ∷ []) tt (plain (λ _. u64))), (said (mutSliceOf (1 ∷ []) tt (plain (λ _. u64))), (said (mutSliceOf (2 ∷ []) tt (plain (λ _. u64))), (said (mutSliceOf (3 ∷ []) tt (plain (λ _. u64))), (said (mutSliceOf (4 ∷ []) tt (plain (λ _. u64))), tt))))))))
 
-abbrev spelled : (κs : Lfts 4) → Spells (typesAt (here.signature .params) κs)
-spelled κs = (desk-vals, (EL.vals DeskCallᵀ.the-type DeskCallᴸ.the-laws, (array-vals (uint-vals w64), (slice-vals, (slice-vals, (slice-vals, (slice-vals, tt)))))))
+abbrev spelled : (κs : Lfts 5) → Spells (typesAt (here.signature .params) κs)
+spelled κs = (desk-vals, (EL.vals DeskCallᵀ.the-type DeskCallᴸ.the-laws, (array-vals (uint-vals w64), (slice-vals, (slice-vals, (slice-vals, (slice-vals, (slice-vals, tt))))))))
 
-abbrev telling : (κs : Lfts 4) → Tellss (typesAt (here.signature .params) κs) (Ises (typesAt (here.signature .params) κs)) (spelled κs)
-telling κs = (desk-tells, (EL.tells DeskCallᵀ.the-type DeskCallᴸ.the-laws, (array-tells u64 (uint-vals w64) (uint-tells w64) 17, (shr-slice-tells (named 0) (κs .0) u64, (mut-slice-tells (named 1) (κs .1 .0) u64, (mut-slice-tells (named 2) (κs .1 .1 .0) u64, (mut-slice-tells (named 3) (κs .1 .1 .1 .0) u64, tt)))))))
+abbrev telling : (κs : Lfts 5) → Tellss (typesAt (here.signature .params) κs) (Ises (typesAt (here.signature .params) κs)) (spelled κs)
+telling κs = (desk-tells, (EL.tells DeskCallᵀ.the-type DeskCallᴸ.the-laws, (array-tells u64 (uint-vals w64) (uint-tells w64) 17, (shr-slice-tells (named 0) (κs .0) u64, (mut-slice-tells (named 1) (κs .1 .0) u64, (mut-slice-tells (named 2) (κs .1 .1 .0) u64, (mut-slice-tells (named 3) (κs .1 .1 .1 .0) u64, (mut-slice-tells (named 4) (κs .1 .1 .1 .1 .0) u64, tt))))))))
 
 -- the contract that the proof cites
 abbrev Callee : {M : Type 1} (𝓤 : URA M) (H : Heap 𝓤) (A : Atoms 𝓤) (at-mem : Memory → SProp 𝓤) (run : Routine → Fun 𝓤) → Contract 𝓤
 Callee 𝓤 H A at-mem run = tripleOf 𝓤 H A callee.signature (callee.spec 𝓤 H A at-mem run)
 
-module _ {M : Type 1} (𝓤 : URA M) (H : Heap 𝓤) (A : Atoms 𝓤) (W : Given 𝓤 H A) (at-mem : Memory → SProp 𝓤) (run : Routine → Fun 𝓤) (κs : Lfts 4) (qs : Shares 4) (a : Args here.signature κs)
+module _ {M : Type 1} (𝓤 : URA M) (H : Heap 𝓤) (A : Atoms 𝓤) (W : Given 𝓤 H A) (at-mem : Memory → SProp 𝓤) (run : Routine → Fun 𝓤) (κs : Lfts 5) (qs : Shares 5) (a : Args here.signature κs)
     (are : Are (typesAt (here.signature .params) κs) (Ises (typesAt (here.signature .params) κs)) a (valss (typesAt (here.signature .params) κs) (spelled κs) a)) where
   abbrev vals : Vals here.signature κs
   vals = valss (typesAt (here.signature .params) κs) (spelled κs) a
@@ -101,27 +101,27 @@ module _ {M : Type 1} (𝓤 : URA M) (H : Heap 𝓤) (A : Atoms 𝓤) (W : Given
 
   -- what is said of those lists
   abbrev Last : (l ν : ℕ) (γ : GName) → Lasts callee.ended (ν ∷ [], κs) (lent-at l γ, a .1) → Fml
-  Last l ν γ zs = lastsOf {n = 4} κs (plain (λ _. DeskCallᵀ.the-row) ∷ plain (λ _. Array u64 17) ∷ shrSliceOf (0 ∷ []) tt (plain (λ _. u64)) ∷ mutSliceOf (1 ∷ []) tt (plain (λ _. u64)) ∷ mutSliceOf (2 ∷ []) tt (plain (λ _. u64)) ∷ mutSliceOf (3 ∷ []) tt (plain (λ _. u64)) ∷ []) (here.ended .kept .1) (a .1) (zs .1)
+  Last l ν γ zs = lastsOf {n = 5} κs (plain (λ _. DeskCallᵀ.the-row) ∷ plain (λ _. Array u64 17) ∷ shrSliceOf (0 ∷ []) tt (plain (λ _. u64)) ∷ mutSliceOf (1 ∷ []) tt (plain (λ _. u64)) ∷ mutSliceOf (2 ∷ []) tt (plain (λ _. u64)) ∷ mutSliceOf (3 ∷ []) tt (plain (λ _. u64)) ∷ mutSliceOf (4 ∷ []) tt (plain (λ _. u64)) ∷ []) (here.ended .kept .1) (a .1) (zs .1)
 
   -- what the entry is called with: the reference, and the other parameters as they are
   abbrev to-entry : ℕ → ℕ → GName → Callee 𝓤 H A at-mem run .Ghost
   to-entry l ν γ = (((ν ∷ [], κs), (fullShare, qs), tt, (lent-at l γ, a .1), (vptr l 0 ∷ [], vals .1)), tt)
 
-  goes : (l ν : ℕ) (γ : GName) → ent 𝓤 (⋆ 𝓤 H A ((‵ (flft (ν ∷ []) fullShare) ⊛ ‵ (flft (κs .0) (qs .0)) ⊛ ‵ (flft (κs .1 .0) (qs .1 .0)) ⊛ ‵ (flft (κs .1 .1 .0) (qs .1 .1 .0)) ⊛ ‵ (flft (κs .1 .1 .1 .0) (qs .1 .1 .1 .0)) ⊛ ‵ ftrue) ∷ ‵ (owns (typesAt (callee.signature .params) (ν ∷ [], κs)) (lent-at l γ, a .1) (vptr l 0 ∷ [], vals .1)) ∷ raw Req ∷ [])) (Callee 𝓤 H A at-mem run .pre (to-entry l ν γ))
-  goes l ν γ = qed W ((‵ (flft (ν ∷ []) fullShare) ⊛ ‵ (flft (κs .0) (qs .0)) ⊛ ‵ (flft (κs .1 .0) (qs .1 .0)) ⊛ ‵ (flft (κs .1 .1 .0) (qs .1 .1 .0)) ⊛ ‵ (flft (κs .1 .1 .1 .0) (qs .1 .1 .1 .0)) ⊛ ‵ ftrue) ∷ ‵ (owns (typesAt (callee.signature .params) (ν ∷ [], κs)) (lent-at l γ, a .1) (vptr l 0 ∷ [], vals .1)) ∷ raw Req ∷ []) ∵ join ! $ frame ! $ done !
+  goes : (l ν : ℕ) (γ : GName) → ent 𝓤 (⋆ 𝓤 H A ((‵ (flft (ν ∷ []) fullShare) ⊛ ‵ (flft (κs .0) (qs .0)) ⊛ ‵ (flft (κs .1 .0) (qs .1 .0)) ⊛ ‵ (flft (κs .1 .1 .0) (qs .1 .1 .0)) ⊛ ‵ (flft (κs .1 .1 .1 .0) (qs .1 .1 .1 .0)) ⊛ ‵ (flft (κs .1 .1 .1 .1 .0) (qs .1 .1 .1 .1 .0)) ⊛ ‵ ftrue) ∷ ‵ (owns (typesAt (callee.signature .params) (ν ∷ [], κs)) (lent-at l γ, a .1) (vptr l 0 ∷ [], vals .1)) ∷ raw Req ∷ [])) (Callee 𝓤 H A at-mem run .pre (to-entry l ν γ))
+  goes l ν γ = qed W ((‵ (flft (ν ∷ []) fullShare) ⊛ ‵ (flft (κs .0) (qs .0)) ⊛ ‵ (flft (κs .1 .0) (qs .1 .0)) ⊛ ‵ (flft (κs .1 .1 .0) (qs .1 .1 .0)) ⊛ ‵ (flft (κs .1 .1 .1 .0) (qs .1 .1 .1 .0)) ⊛ ‵ (flft (κs .1 .1 .1 .1 .0) (qs .1 .1 .1 .1 .0)) ⊛ ‵ ftrue) ∷ ‵ (owns (typesAt (callee.signature .params) (ν ∷ [], κs)) (lent-at l γ, a .1) (vptr l 0 ∷ [], vals .1)) ∷ raw Req ∷ []) ∵ join ! $ frame ! $ done !
 
   exits : (l ν : ℕ) (γ : GName) (r : Answer) (zs : Lasts callee.ended (ν ∷ [], κs) (lent-at l γ, a .1)) → Is Answerᵀ.the-row r (answer-val r ∷ []) → Is Deskᵀ.the-row (zs .0) (desk-vals (zs .0))
-      → ent 𝓤 (⋆ 𝓤 H A ((‵ (flft (κs .0) (qs .0)) ⊛ ‵ (flft (κs .1 .0) (qs .1 .0)) ⊛ ‵ (flft (κs .1 .1 .0) (qs .1 .1 .0)) ⊛ ‵ (flft (κs .1 .1 .1 .0) (qs .1 .1 .1 .0)) ⊛ ‵ ftrue) ∷ ‵ (Last l ν γ zs) ∷ raw (Ens l ν γ r zs) ∷ [])) (Post (outcome-val (outcome-of r (zs .0))))
+      → ent 𝓤 (⋆ 𝓤 H A ((‵ (flft (κs .0) (qs .0)) ⊛ ‵ (flft (κs .1 .0) (qs .1 .0)) ⊛ ‵ (flft (κs .1 .1 .0) (qs .1 .1 .0)) ⊛ ‵ (flft (κs .1 .1 .1 .0) (qs .1 .1 .1 .0)) ⊛ ‵ (flft (κs .1 .1 .1 .1 .0) (qs .1 .1 .1 .1 .0)) ⊛ ‵ ftrue) ∷ ‵ (Last l ν γ zs) ∷ raw (Ens l ν γ r zs) ∷ [])) (Post (outcome-val (outcome-of r (zs .0))))
   exits l ν γ r zs is g =
-      qed W ((‵ (flft (κs .0) (qs .0)) ⊛ ‵ (flft (κs .1 .0) (qs .1 .0)) ⊛ ‵ (flft (κs .1 .1 .0) (qs .1 .1 .0)) ⊛ ‵ (flft (κs .1 .1 .1 .0) (qs .1 .1 .1 .0)) ⊛ ‵ ftrue) ∷ ‵ (Last l ν γ zs) ∷ raw (Ens l ν γ r zs) ∷ []) ∵
-      suffices ! _ (ends-at 𝓤 H A here.ended stayed (here.clauses 𝓤 H A at-mem run) W ((κs, qs, tt, a, vals), tt) _ (outcome-of r (zs .0)) (tt, zs .1) (tt, (tt, (tt, (tt, (tt, (tt, (tt, tt)))))))) $
+      qed W ((‵ (flft (κs .0) (qs .0)) ⊛ ‵ (flft (κs .1 .0) (qs .1 .0)) ⊛ ‵ (flft (κs .1 .1 .0) (qs .1 .1 .0)) ⊛ ‵ (flft (κs .1 .1 .1 .0) (qs .1 .1 .1 .0)) ⊛ ‵ (flft (κs .1 .1 .1 .1 .0) (qs .1 .1 .1 .1 .0)) ⊛ ‵ ftrue) ∷ ‵ (Last l ν γ zs) ∷ raw (Ens l ν γ r zs) ∷ []) ∵
+      suffices ! _ (ends-at 𝓤 H A here.ended stayed (here.clauses 𝓤 H A at-mem run) W ((κs, qs, tt, a, vals), tt) _ (outcome-of r (zs .0)) (tt, zs .1) (tt, (tt, (tt, (tt, (tt, (tt, (tt, (tt, tt))))))))) $
       owned ! Outcomeᵀ.the-row (Is Outcomeᵀ.the-row) (LL.makes Outcomeᵀ.the-type Outcomeᴸ.the-plain 𝓤 H A) (outcome-of r (zs .0)) _ (whole-of r (zs .0) is g) $
       move ! (2 ∷ []) $ nothing ! $ fjoin ! $ move ! (0 ∷ 1 ∷ []) $ join ! $ move ! (1 ∷ 0 ∷ []) $ join ! $ frame ! $ done !
 
   module _ (C : Calls 𝓤 H) (Λ : Loops 𝓤 H) (fm : FmC 𝓤 H (W .laws) C) (known : Triple 𝓤 (C #callee) (Callee 𝓤 H A at-mem run)) where
     walk : ent 𝓤 (sep 𝓤 (onEntry 𝓤 H A here.signature κs qs a vals) Req) (WpFn 𝓤 H C Λ code.function (flat (typesAt (here.signature .params) κs) vals) Post)
     walk =
-        qed W (((‵ (flft (κs .0) (qs .0)) ⊛ ‵ (flft (κs .1 .0) (qs .1 .0)) ⊛ ‵ (flft (κs .1 .1 .0) (qs .1 .1 .0)) ⊛ ‵ (flft (κs .1 .1 .1 .0) (qs .1 .1 .1 .0)) ⊛ ‵ ftrue) ⊛ ‵ (owns (typesAt (here.signature .params) κs) a vals)) ∷ raw Req ∷ []) ∵ split ! $ enter ! C Λ code.function _ _ $
+        qed W (((‵ (flft (κs .0) (qs .0)) ⊛ ‵ (flft (κs .1 .0) (qs .1 .0)) ⊛ ‵ (flft (κs .1 .1 .0) (qs .1 .1 .0)) ⊛ ‵ (flft (κs .1 .1 .1 .0) (qs .1 .1 .1 .0)) ⊛ ‵ (flft (κs .1 .1 .1 .1 .0) (qs .1 .1 .1 .1 .0)) ⊛ ‵ ftrue) ⊛ ‵ (owns (typesAt (here.signature .params) κs) a vals)) ∷ raw Req ∷ []) ∵ split ! $ enter ! C Λ code.function _ _ $
         alloc1 ! {τ = Outcomeᴸ.mir} (λ l0.
         alloc1 ! {τ = Deskᴸ.mir} (λ l1.
         alloc1 ! {τ = DeskCallᴸ.mir} (λ l2.
@@ -130,82 +130,91 @@ module _ {M : Type 1} (𝓤 : URA M) (H : Heap 𝓤) (A : Atoms 𝓤) (W : Given
         alloc1 ! (λ l5.
         alloc1 ! (λ l6.
         alloc1 ! (λ l7.
-        alloc1 ! {τ = Deskᴸ.mir} (λ l8.
-        alloc1 ! {τ = Answerᴸ.mir} (λ l9.
-        alloc1 ! (λ l10.
+        alloc1 ! (λ l8.
+        alloc1 ! {τ = Deskᴸ.mir} (λ l9.
+        alloc1 ! {τ = Answerᴸ.mir} (λ l10.
         alloc1 ! (λ l11.
         alloc1 ! (λ l12.
         alloc1 ! (λ l13.
         alloc1 ! (λ l14.
         alloc1 ! (λ l15.
         alloc1 ! (λ l16.
-        alloc1 ! {τ = Deskᴸ.mir} (λ l17.
+        alloc1 ! (λ l17.
+        alloc1 ! (λ l18.
+        alloc1 ! (λ l19.
+        alloc1 ! {τ = Deskᴸ.mir} (λ l20.
         alloc0 ! $ params1 ! $
-        pass1 ! (init ! 32 {τ = Deskᴸ.mir} refl (LL.lawful Deskᵀ.the-type Deskᴸ.the-laws 𝓤 H A W .typed h _ (are .0) .0)) $
-        pass1 ! (init ! 30 {τ = DeskCallᴸ.mir} refl (EL.lawful DeskCallᵀ.the-type DeskCallᴸ.the-laws 𝓤 H A W tt .typed (a .1 .0) _ (are .1 .0) .0)) $
-        pass1 ! (init ! 28 refl (array-lawful 𝓤 H A W u64 (uint-lawful 𝓤 H A W w64) 17 .typed (a .1 .1 .0) _ (are .1 .1 .0) .0)) $
-        pass1 ! (init ! 26 refl (tt, (tt, (record { fits = are .1 .1 .1 .0 .0 .1 .0 }, tt)))) $
-        pass1 ! (init ! 24 refl (tt, (tt, (record { fits = are .1 .1 .1 .1 .0 .0 .1 .0 }, tt)))) $
-        pass1 ! (init ! 22 refl (tt, (tt, (record { fits = are .1 .1 .1 .1 .1 .0 .0 .1 .0 }, tt)))) $
-        pass1 ! (init ! 20 refl (tt, (tt, (record { fits = are .1 .1 .1 .1 .1 .1 .0 .0 .1 .0 }, tt)))) $
+        pass1 ! (init ! 38 {τ = Deskᴸ.mir} refl (LL.lawful Deskᵀ.the-type Deskᴸ.the-laws 𝓤 H A W .typed h _ (are .0) .0)) $
+        pass1 ! (init ! 36 {τ = DeskCallᴸ.mir} refl (EL.lawful DeskCallᵀ.the-type DeskCallᴸ.the-laws 𝓤 H A W tt .typed (a .1 .0) _ (are .1 .0) .0)) $
+        pass1 ! (init ! 34 refl (array-lawful 𝓤 H A W u64 (uint-lawful 𝓤 H A W w64) 17 .typed (a .1 .1 .0) _ (are .1 .1 .0) .0)) $
+        pass1 ! (init ! 32 refl (tt, (tt, (record { fits = are .1 .1 .1 .0 .0 .1 .0 }, tt)))) $
+        pass1 ! (init ! 30 refl (tt, (tt, (record { fits = are .1 .1 .1 .1 .0 .0 .1 .0 }, tt)))) $
+        pass1 ! (init ! 28 refl (tt, (tt, (record { fits = are .1 .1 .1 .1 .1 .0 .0 .1 .0 }, tt)))) $
+        pass1 ! (init ! 26 refl (tt, (tt, (record { fits = are .1 .1 .1 .1 .1 .1 .0 .0 .1 .0 }, tt)))) $
+        pass1 ! (init ! 24 refl (tt, (tt, (record { fits = are .1 .1 .1 .1 .1 .1 .1 .0 .0 .1 .0 }, tt)))) $
         pass0 ! $
-        assigns ! (of-opd ! (load ! (from ! (stop !)) (look ! 32 {τ = Deskᴸ.mir} refl))) (from ! (stop !)) (init ! 18 {τ = Deskᴸ.mir} refl (LL.lawful Deskᵀ.the-type Deskᴸ.the-laws 𝓤 H A W .typed h _ (are .0) .0)) $
-        assigns ! (addr ! (from ! (stop !))) (from ! (stop !)) (init ! 14 refl (tt, tt)) $
-        assigns ! (addr ! (from ! (fld ! refl (hop ! (look-in ! 24 (sub ! 0 refl (whole !))) (stop !))))) (from ! (stop !)) (init ! 12 refl (tt, tt)) $
-        assigns ! (agg ! (and-then ! (load ! (from ! (stop !)) (look ! 12 refl)) (and-then ! (load ! (from ! (fld ! refl (stop !))) (look-in ! 24 (sub ! 1 refl (whole !)))) (no-more !)))) (from ! (stop !)) (init ! 10 refl (tt, (tt, (record { fits = are .1 .1 .1 .1 .0 .0 .1 .0 }, tt)))) $
-        assigns ! (addr ! (from ! (fld ! refl (hop ! (look-in ! 22 (sub ! 0 refl (whole !))) (stop !))))) (from ! (stop !)) (init ! 8 refl (tt, tt)) $
-        assigns ! (agg ! (and-then ! (load ! (from ! (stop !)) (look ! 8 refl)) (and-then ! (load ! (from ! (fld ! refl (stop !))) (look-in ! 22 (sub ! 1 refl (whole !)))) (no-more !)))) (from ! (stop !)) (init ! 6 refl (tt, (tt, (record { fits = are .1 .1 .1 .1 .1 .0 .0 .1 .0 }, tt)))) $
-        assigns ! (addr ! (from ! (fld ! refl (hop ! (look-in ! 20 (sub ! 0 refl (whole !))) (stop !))))) (from ! (stop !)) (init ! 4 refl (tt, tt)) $
-        assigns ! (agg ! (and-then ! (load ! (from ! (stop !)) (look ! 4 refl)) (and-then ! (load ! (from ! (fld ! refl (stop !))) (look-in ! 20 (sub ! 1 refl (whole !)))) (no-more !)))) (from ! (stop !)) (init ! 2 refl (tt, (tt, (record { fits = are .1 .1 .1 .1 .1 .1 .0 .0 .1 .0 }, tt)))) $
+        assigns ! (of-opd ! (load ! (from ! (stop !)) (look ! 38 {τ = Deskᴸ.mir} refl))) (from ! (stop !)) (init ! 22 {τ = Deskᴸ.mir} refl (LL.lawful Deskᵀ.the-type Deskᴸ.the-laws 𝓤 H A W .typed h _ (are .0) .0)) $
+        assigns ! (addr ! (from ! (stop !))) (from ! (stop !)) (init ! 18 refl (tt, tt)) $
+        assigns ! (addr ! (from ! (fld ! refl (hop ! (look-in ! 30 (sub ! 0 refl (whole !))) (stop !))))) (from ! (stop !)) (init ! 16 refl (tt, tt)) $
+        assigns ! (agg ! (and-then ! (load ! (from ! (stop !)) (look ! 16 refl)) (and-then ! (load ! (from ! (fld ! refl (stop !))) (look-in ! 30 (sub ! 1 refl (whole !)))) (no-more !)))) (from ! (stop !)) (init ! 14 refl (tt, (tt, (record { fits = are .1 .1 .1 .1 .0 .0 .1 .0 }, tt)))) $
+        assigns ! (addr ! (from ! (fld ! refl (hop ! (look-in ! 28 (sub ! 0 refl (whole !))) (stop !))))) (from ! (stop !)) (init ! 12 refl (tt, tt)) $
+        assigns ! (agg ! (and-then ! (load ! (from ! (stop !)) (look ! 12 refl)) (and-then ! (load ! (from ! (fld ! refl (stop !))) (look-in ! 28 (sub ! 1 refl (whole !)))) (no-more !)))) (from ! (stop !)) (init ! 10 refl (tt, (tt, (record { fits = are .1 .1 .1 .1 .1 .0 .0 .1 .0 }, tt)))) $
+        assigns ! (addr ! (from ! (fld ! refl (hop ! (look-in ! 26 (sub ! 0 refl (whole !))) (stop !))))) (from ! (stop !)) (init ! 8 refl (tt, tt)) $
+        assigns ! (agg ! (and-then ! (load ! (from ! (stop !)) (look ! 8 refl)) (and-then ! (load ! (from ! (fld ! refl (stop !))) (look-in ! 26 (sub ! 1 refl (whole !)))) (no-more !)))) (from ! (stop !)) (init ! 6 refl (tt, (tt, (record { fits = are .1 .1 .1 .1 .1 .1 .0 .0 .1 .0 }, tt)))) $
+        assigns ! (addr ! (from ! (fld ! refl (hop ! (look-in ! 24 (sub ! 0 refl (whole !))) (stop !))))) (from ! (stop !)) (init ! 4 refl (tt, tt)) $
+        assigns ! (agg ! (and-then ! (load ! (from ! (stop !)) (look ! 4 refl)) (and-then ! (load ! (from ! (fld ! refl (stop !))) (look-in ! 24 (sub ! 1 refl (whole !)))) (no-more !)))) (from ! (stop !)) (init ! 2 refl (tt, (tt, (record { fits = are .1 .1 .1 .1 .1 .1 .1 .0 .0 .1 .0 }, tt)))) $
         -- the local desk is lent, for a lifetime ν of the call
-        move ! (37 ∷ []) $
+        move ! (43 ∷ []) $
         fsplit ! $
-        move ! (20 ∷ 0 ∷ []) $
-        use1 W (‵ (cellAt fullShare (Deskᵀ.the-row .mir) (desk-vals h) l8 0)) (W .laws .at-raw fullShare Deskᴸ.mir l8 0 (desk-val h)) $ use2 W (‵ (mem Deskᵀ.the-row .lies h l8 0)) (lies-in 𝓤 H A W h l8 0) $
+        move ! (24 ∷ 0 ∷ []) $
+        use1 W (‵ (cellAt fullShare (Deskᵀ.the-row .mir) (desk-vals h) l9 0)) (W .laws .at-raw fullShare Deskᴸ.mir l9 0 (desk-val h)) $ use2 W (‵ (mem Deskᵀ.the-row .lies h l9 0)) (lies-in 𝓤 H A W h l9 0) $
         lft-new ! tt (λ ν.
         move ! (1 ∷ []) $
-        use1 W (later (some (λ (γ : GName). ‵ (MutRef (named 0) (ν ∷ []) Deskᵀ.the-row .own (lent-at l8 γ) (vptr l8 0 ∷ [])) ⊛ ‵ (flent (ν ∷ []) (Body (mem Deskᵀ.the-row) l8 0 γ))))) (lends-ref 𝓤 H A W Deskᵀ.the-row (named 0) (ν ∷ []) h l8 0) $ await ! tt $ pick ! (λ γ. split ! $
+        use1 W (later (some (λ (γ : GName). ‵ (MutRef (named 0) (ν ∷ []) Deskᵀ.the-row .own (lent-at l9 γ) (vptr l9 0 ∷ [])) ⊛ ‵ (flent (ν ∷ []) (Body (mem Deskᵀ.the-row) l9 0 γ))))) (lends-ref 𝓤 H A W Deskᵀ.the-row (named 0) (ν ∷ []) h l9 0) $ await ! tt $ pick ! (λ γ. split ! $
         -- the entry is called
         move ! (0 ∷ 3 ∷ []) $
         fjoin ! $
-        move ! (2 ∷ 38 ∷ []) $
+        move ! (2 ∷ 44 ∷ []) $
         join ! $
-        move ! (0 ∷ 1 ∷ 38 ∷ []) $
-        use3 W (raw (Callee 𝓤 H A at-mem run .pre (to-entry l8 ν γ))) (goes l8 ν γ) $
-        calls-at ! fm (Callee 𝓤 H A at-mem run) known (to-entry l8 ν γ) (and-then ! (load ! (from ! (stop !)) (look ! 16 refl)) (and-then ! (load ! (from ! (stop !)) (look ! 31 {τ = DeskCallᴸ.mir} refl)) (and-then ! (load ! (from ! (stop !)) (look ! 29 refl)) (and-then ! (load ! (from ! (stop !)) (look ! 27 refl)) (and-then ! (load ! (from ! (stop !)) (look ! 12 refl)) (and-then ! (load ! (from ! (stop !)) (look ! 8 refl)) (and-then ! (load ! (from ! (stop !)) (look ! 4 refl)) (no-more !)))))))) (λ w.
-        use1 W (later (some (λ (r : Answer). ((‵ (flft (ν ∷ []) fullShare) ⊛ ‵ (flft (κs .0) (qs .0)) ⊛ ‵ (flft (κs .1 .0) (qs .1 .0)) ⊛ ‵ (flft (κs .1 .1 .0) (qs .1 .1 .0)) ⊛ ‵ (flft (κs .1 .1 .1 .0) (qs .1 .1 .1 .0)) ⊛ ‵ ftrue) ⊛ ‵ (Answerᵀ.the-row .own r (w ∷ []))) ⊛ raw (ensured 𝓤 H A callee.ended (callee.clauses 𝓤 H A at-mem run) (ν ∷ [], κs) (lent-at l8 γ, a .1) tt r)))) (id⊢ 𝓤 _) $ await ! tt $ pick ! (λ r. split ! $
+        move ! (0 ∷ 1 ∷ 44 ∷ []) $
+        use3 W (raw (Callee 𝓤 H A at-mem run .pre (to-entry l9 ν γ))) (goes l9 ν γ) $
+        calls-at ! fm (Callee 𝓤 H A at-mem run) known (to-entry l9 ν γ) (and-then ! (load ! (from ! (stop !)) (look ! 20 refl)) (and-then ! (load ! (from ! (stop !)) (look ! 37 {τ = DeskCallᴸ.mir} refl)) (and-then ! (load ! (from ! (stop !)) (look ! 35 refl)) (and-then ! (load ! (from ! (stop !)) (look ! 33 refl)) (and-then ! (load ! (from ! (stop !)) (look ! 16 refl)) (and-then ! (load ! (from ! (stop !)) (look ! 12 refl)) (and-then ! (load ! (from ! (stop !)) (look ! 8 refl)) (and-then ! (load ! (from ! (stop !)) (look ! 4 refl)) (no-more !))))))))) (λ w.
+        use1 W (later (some (λ (r : Answer). ((‵ (flft (ν ∷ []) fullShare) ⊛ ‵ (flft (κs .0) (qs .0)) ⊛ ‵ (flft (κs .1 .0) (qs .1 .0)) ⊛ ‵ (flft (κs .1 .1 .0) (qs .1 .1 .0)) ⊛ ‵ (flft (κs .1 .1 .1 .0) (qs .1 .1 .1 .0)) ⊛ ‵ (flft (κs .1 .1 .1 .1 .0) (qs .1 .1 .1 .1 .0)) ⊛ ‵ ftrue) ⊛ ‵ (Answerᵀ.the-row .own r (w ∷ []))) ⊛ raw (ensured 𝓤 H A callee.ended (callee.clauses 𝓤 H A at-mem run) (ν ∷ [], κs) (lent-at l9 γ, a .1) tt r)))) (id⊢ 𝓤 _) $ await ! tt $ pick ! (λ r. split ! $
         move ! (1 ∷ []) $
-        use1 W (some (λ (zs : Lasts callee.ended (ν ∷ [], κs) (lent-at l8 γ, a .1)). ‵ (lasts callee.ended (ν ∷ [], κs) (lent-at l8 γ, a .1) zs) ⊛ raw (Ens l8 ν γ r zs))) (id⊢ 𝓤 _) $ pick ! (λ zs. split ! $ fsplit ! $
+        use1 W (some (λ (zs : Lasts callee.ended (ν ∷ [], κs) (lent-at l9 γ, a .1)). ‵ (lasts callee.ended (ν ∷ [], κs) (lent-at l9 γ, a .1) zs) ⊛ raw (Ens l9 ν γ r zs))) (id⊢ 𝓤 _) $ pick ! (λ zs. split ! $ fsplit ! $
         move ! (3 ∷ []) $
         split ! $ split ! $
         -- the loan is over, and the local desk is back at its last value
         lft-end ! tt $
         move ! (0 ∷ 6 ∷ 3 ∷ []) $
-        use3 W (later (‵ (mem Deskᵀ.the-row .lies (zs .0) l8 0))) (ref-back 𝓤 H A W Deskᵀ.the-row (ν ∷ []) γ (zs .0) l8 0) $ await ! tt $
-        use1 W (‵ (cellAt fullShare (Deskᵀ.the-row .mir) (desk-vals (zs .0)) l8 0) ⊛ ‵ (Deskᵀ.the-row .own (zs .0) (desk-vals (zs .0)))) (lies-out 𝓤 H A W (zs .0) l8 0) $ split ! $
-        use1 W (‵ (fat fullShare Deskᴸ.mir l8 0 (desk-val (zs .0)))) (W .laws .raw-at fullShare Deskᴸ.mir l8 0 (desk-val (zs .0))) $
+        use3 W (later (‵ (mem Deskᵀ.the-row .lies (zs .0) l9 0))) (ref-back 𝓤 H A W Deskᵀ.the-row (ν ∷ []) γ (zs .0) l9 0) $ await ! tt $
+        use1 W (‵ (cellAt fullShare (Deskᵀ.the-row .mir) (desk-vals (zs .0)) l9 0) ⊛ ‵ (Deskᵀ.the-row .own (zs .0) (desk-vals (zs .0)))) (lies-out 𝓤 H A W (zs .0) l9 0) $ split ! $
+        use1 W (‵ (fat fullShare Deskᴸ.mir l9 0 (desk-val (zs .0)))) (W .laws .raw-at fullShare Deskᴸ.mir l9 0 (desk-val (zs .0))) $
         move ! (1 ∷ []) $
         peeks ! Deskᵀ.the-row (Is Deskᵀ.the-row) (shows 𝓤 H A Deskᵀ.the-row) (zs .0) (desk-vals (zs .0)) (λ g. drop ! $
         move ! (2 ∷ []) $
         peeks ! Answerᵀ.the-row (Is Answerᵀ.the-row) (shows 𝓤 H A Answerᵀ.the-row) r (w ∷ []) (λ is₀.
-        land ! (from ! (stop !)) (init ! 21 {τ = Answerᴸ.mir} refl (EL.lawful Answerᵀ.the-type Answerᴸ.the-laws 𝓤 H A W tt .typed r _ is₀ .0)) $
-        rewrite ! 21 (λ (u : Val). ‵ (fat fullShare Answerᴸ.mir l9 0 u)) (ap only (answer-tells r _ is₀)) refl $
+        land ! (from ! (stop !)) (init ! 25 {τ = Answerᴸ.mir} refl (EL.lawful Answerᵀ.the-type Answerᴸ.the-laws 𝓤 H A W tt .typed r _ is₀ .0)) $
+        rewrite ! 25 (λ (u : Val). ‵ (fat fullShare Answerᴸ.mir l10 0 u)) (ap only (answer-tells r _ is₀)) refl $
         rewrite ! 0 (λ (us : List Val). ‵ (Answerᵀ.the-row .own r us)) (answer-tells r _ is₀) refl $
         peeks ! Answerᵀ.the-row (Is Answerᵀ.the-row) (shows 𝓤 H A Answerᵀ.the-row) r (answer-val r ∷ []) (λ is. drop ! $
         -- the outcome is made
         assigns ! (of-opd ! (load ! (from ! (stop !)) (look ! 0 {τ = Deskᴸ.mir} refl))) (from ! (stop !)) (init ! 4 {τ = Deskᴸ.mir} refl (LL.lawful Deskᵀ.the-type Deskᴸ.the-laws 𝓤 H A W .typed (zs .0) _ g .0)) $
-        assigns ! (agg ! (and-then ! (load ! (from ! (stop !)) (look ! 20 {τ = Answerᴸ.mir} refl)) (and-then ! (load ! (from ! (stop !)) (look ! 4 {τ = Deskᴸ.mir} refl)) (no-more !)))) (from ! (stop !)) (init ! 37 {τ = Outcomeᴸ.mir} refl (LL.lawful Outcomeᵀ.the-type Outcomeᴸ.the-laws 𝓤 H A W .typed (outcome-of r (zs .0)) _ (whole-of r (zs .0) is g) .0)) $
-        returns ! (look ! 37 {τ = Outcomeᴸ.mir} refl) $
-        forget ! 37 {τ = Outcomeᴸ.mir} refl $
-        forget ! 35 {τ = Deskᴸ.mir} refl $
-        forget ! 33 {τ = DeskCallᴸ.mir} refl $
+        assigns ! (agg ! (and-then ! (load ! (from ! (stop !)) (look ! 24 {τ = Answerᴸ.mir} refl)) (and-then ! (load ! (from ! (stop !)) (look ! 4 {τ = Deskᴸ.mir} refl)) (no-more !)))) (from ! (stop !)) (init ! 43 {τ = Outcomeᴸ.mir} refl (LL.lawful Outcomeᵀ.the-type Outcomeᴸ.the-laws 𝓤 H A W .typed (outcome-of r (zs .0)) _ (whole-of r (zs .0) is g) .0)) $
+        returns ! (look ! 43 {τ = Outcomeᴸ.mir} refl) $
+        forget ! 43 {τ = Outcomeᴸ.mir} refl $
+        forget ! 41 {τ = Deskᴸ.mir} refl $
+        forget ! 39 {τ = DeskCallᴸ.mir} refl $
+        forget ! 37 refl $
+        forget ! 35 refl $
+        forget ! 33 refl $
         forget ! 31 refl $
         forget ! 29 refl $
         forget ! 27 refl $
-        forget ! 25 refl $
-        forget ! 23 refl $
         forget ! 0 {τ = Deskᴸ.mir} refl $
-        forget ! 20 {τ = Answerᴸ.mir} refl $
+        forget ! 24 {τ = Answerᴸ.mir} refl $
+        forget ! 22 refl $
+        forget ! 20 refl $
         forget ! 18 refl $
         forget ! 16 refl $
         forget ! 14 refl $
@@ -214,6 +223,12 @@ module _ {M : Type 1} (𝓤 : URA M) (H : Heap 𝓤) (A : Atoms 𝓤) (W : Given
         forget ! 8 refl $
         forget ! 6 refl $
         forget ! 4 {τ = Deskᴸ.mir} refl $
+        move ! (43 ∷ 44 ∷ []) $
+        free1 ! $
+        move ! (41 ∷ 42 ∷ []) $
+        free1 ! $
+        move ! (39 ∷ 40 ∷ []) $
+        free1 ! $
         move ! (37 ∷ 38 ∷ []) $
         free1 ! $
         move ! (35 ∷ 36 ∷ []) $
@@ -226,11 +241,11 @@ module _ {M : Type 1} (𝓤 : URA M) (H : Heap 𝓤) (A : Atoms 𝓤) (W : Given
         free1 ! $
         move ! (27 ∷ 28 ∷ []) $
         free1 ! $
-        move ! (25 ∷ 26 ∷ []) $
+        move ! (0 ∷ 26 ∷ []) $
         free1 ! $
         move ! (23 ∷ 24 ∷ []) $
         free1 ! $
-        move ! (0 ∷ 22 ∷ []) $
+        move ! (21 ∷ 22 ∷ []) $
         free1 ! $
         move ! (19 ∷ 20 ∷ []) $
         free1 ! $
@@ -251,12 +266,12 @@ module _ {M : Type 1} (𝓤 : URA M) (H : Heap 𝓤) (A : Atoms 𝓤) (W : Given
         move ! (3 ∷ 4 ∷ []) $
         free1 ! $
         free0 ! $
-        keep ! (0 ∷ 1 ∷ 2 ∷ []) $ by ! (exits l8 ν γ r zs is g)))))))))))))))))))))))))))
+        keep ! (0 ∷ 1 ∷ 2 ∷ []) $ by ! (exits l9 ν γ r zs is g))))))))))))))))))))))))))))))
 
 meets : {M : Type 1} (𝓤 : URA M) (H : Heap 𝓤) (A : Atoms 𝓤) (W : Given 𝓤 H A) (at-mem : Memory → SProp 𝓤) (run : Routine → Fun 𝓤) (𝓣 : Tables 𝓤 H) → Triple 𝓤 (𝓣 .C #callee) (Callee 𝓤 H A at-mem run)
     → Meets 𝓤 H A here.signature (WpFn 𝓤 H (𝓣 .C) (𝓣 .Λ) code.function) (here.spec 𝓤 H A at-mem run)
 meets 𝓤 H A W at-mem run 𝓣 known =
-    walk-meets 𝓤 H A here.ended stayed W (said-goes 𝓤 H A W 4 (plain (λ _. Deskᵀ.the-row)), (said-goes 𝓤 H A W 4 (plain (λ _. DeskCallᵀ.the-row)), (said-goes 𝓤 H A W 4 (plain (λ _. Array u64 17)), (said-goes 𝓤 H A W 4 (shrSliceOf (0 ∷ []) tt (plain (λ _. u64))), (said-goes 𝓤 H A W 4 (mutSliceOf (1 ∷ []) tt (plain (λ _. u64))), (said-goes 𝓤 H A W 4 (mutSliceOf (2 ∷ []) tt (plain (λ _. u64))), (said-goes 𝓤 H A W 4 (mutSliceOf (3 ∷ []) tt (plain (λ _. u64))), tt)))))))
+    walk-meets 𝓤 H A here.ended stayed W (said-goes 𝓤 H A W 5 (plain (λ _. Deskᵀ.the-row)), (said-goes 𝓤 H A W 5 (plain (λ _. DeskCallᵀ.the-row)), (said-goes 𝓤 H A W 5 (plain (λ _. Array u64 17)), (said-goes 𝓤 H A W 5 (shrSliceOf (0 ∷ []) tt (plain (λ _. u64))), (said-goes 𝓤 H A W 5 (mutSliceOf (1 ∷ []) tt (plain (λ _. u64))), (said-goes 𝓤 H A W 5 (mutSliceOf (2 ∷ []) tt (plain (λ _. u64))), (said-goes 𝓤 H A W 5 (mutSliceOf (3 ∷ []) tt (plain (λ _. u64))), (said-goes 𝓤 H A W 5 (mutSliceOf (4 ∷ []) tt (plain (λ _. u64))), tt))))))))
     (here.clauses 𝓤 H A at-mem run) (WpFn 𝓤 H (𝓣 .C) (𝓣 .Λ) code.function) (WpFn-mono 𝓤 H (W .laws) 𝓣 code.function)
     (walked 𝓤 H A here.ended stayed (here.clauses 𝓤 H A at-mem run) (WpFn 𝓤 H (𝓣 .C) (𝓣 .Λ) code.function) spelled telling
     (λ κs qs bounds a g are. walk 𝓤 H A W at-mem run κs qs a are (𝓣 .C) (𝓣 .Λ) (fmOf 𝓤 H (W .laws) 𝓣) known))

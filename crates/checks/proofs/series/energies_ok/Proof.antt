@@ -9,8 +9,8 @@ use Rattle.quantity.specs.Word.{signed}
 use Rattle.quantity.specs.Lists.{all}
 use Rattle.quantity.proofs.Lists.{all-none, all-more, all-map}
 use borrow.Author.Needs.{needs}
-use Rattle.submit.proofs.conditions.energies_ok.Statement.{statement}
-use Rattle.submit.proofs.conditions.energies_ok.Tie as tie
+use Rattle.checks.proofs.series.energies_ok.Statement.{statement}
+use Rattle.checks.proofs.series.energies_ok.Tie as tie
 
 -- the range of an energy, by its word
 abbrev energyWord : ℕ → Bool

@@ -1,12 +1,12 @@
--- `store` meets its contract. Assumes nothing.
+-- `put_series` meets its contract. Assumes nothing.
 use mathlib.Core.Path.{_≡_, _∙_}
 use lib.ListN.{length}
 use Rattle.book.specs.Row.{part}
 use Rattle.book.proofs.Rows.{lent, back, length-part}
-use Rattle.submit.proofs.Submitting.{filled}
+use Rattle.amend.proofs.Stored.{filled}
 use borrow.Author.Needs.{needs}
-use Rattle.submit.proofs.call.store.Statement.{statement}
-use Rattle.submit.proofs.call.store.Tie as tie
+use Rattle.amend.proofs.copies.put_series.Statement.{statement}
+use Rattle.amend.proofs.copies.put_series.Tie as tie
 
 add-end : tie.Need-add-end
 add-end c = search needs
@@ -33,12 +33,12 @@ returns : tie.Need-returns
 returns c =
     let s = c .before .before .before .before .before .before in
     let a = s .args in
-    let row = part (a .values .now) (a .start) (a .q) in
-    let n : length row ≡ a .q = length-part (a .values .now) (a .start) (a .q) (s .pre .0) in
-    back (a .values .now) (a .start) (a .q) ((simp lent at (c .before .before .copy-row .ensures)) ∙ filled (a .series .now) row (a .q) (s .pre .1) n)
+    let row = part (a .store .now) (a .start) (a .q) in
+    let n : length row ≡ a .q = length-part (a .store .now) (a .start) (a .q) (s .pre .0) in
+    back (a .store .now) (a .start) (a .q) ((simp lent at (c .before .before .copy-row .ensures)) ∙ filled (a .series .now) row (a .q) (s .pre .1) n)
 
-pub store-spec : {M : Type 1} → statement M
-store-spec =
+pub put-series-spec : {M : Type 1} → statement M
+put-series-spec =
     tie.close
     (tie.spec
     add-end

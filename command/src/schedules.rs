@@ -1,0 +1,75 @@
+//! Schedules as text: a line a group with what it planned to take. A group that is lodged again has the later schedule, and one that never is has 0.
+
+use std::ffi::OsStr;
+
+use crate::input;
+use crate::library::GROUPS;
+use crate::lines::{self, unit_of, Given};
+use crate::numbers::{self, quoted, Limits};
+use crate::output::{self, Failure};
+use crate::series::Files;
+
+/// The schedules of a month, by group.
+pub struct Schedules {
+    pub name: String,
+    lodged: [Option<Vec<u64>>; GROUPS as usize],
+}
+
+impl Schedules {
+    /// A group's energies, one for each quarter hour; nothing where none were lodged.
+    pub fn of(&self, group: u64) -> Option<&[u64]> {
+        self.lodged[group as usize - 1].as_deref()
+    }
+
+    /// The sum of a group's schedule over the month.
+    pub fn sum(&self, group: u64) -> i64 {
+        let energies = self.of(group).unwrap_or_default();
+        energies.iter().map(|word| *word as i64).sum()
+    }
+
+    /// The sum of all schedules over the month.
+    pub fn total(&self) -> i128 {
+        (1..=GROUPS).map(|group| i128::from(self.sum(group))).sum()
+    }
+}
+
+/// A line's group and its energies.
+fn lodging(words: &[&str], quarters: usize, files: &mut Files) -> Result<(u64, Vec<u64>), String> {
+    if words[0] != "lodge" {
+        return Err(format!(
+            "there is no call {} in a text of schedules; it has lodge alone",
+            quoted(words[0])
+        ));
+    }
+    let mut given = Given::read("lodge", &words[1..])?;
+    let unit = unit_of(given.take("unit"))?;
+    let fields = given.words(&["group", "energies"], None, ", unit")?;
+    let group = numbers::counting("group", fields[0], GROUPS)?;
+    let energies = numbers::energies(fields[1], unit, Limits::Schedule(quarters), files)?;
+    Ok((group, energies))
+}
+
+/// The schedules of a text, for a month of so many quarter hours; every bad line is named at once.
+pub fn read(name: &OsStr, quarters: usize) -> Result<Schedules, Failure> {
+    let text = input::text(name, "schedules are lines `lodge group=N energies=..`")?;
+    let mut schedules = Schedules {
+        name: input::shown(name).into_owned(),
+        lodged: [const { None }; GROUPS as usize],
+    };
+    let mut files = Files::new(&input::folder(name));
+    let complaints = lines::each(&text, |_, words| {
+        if words.is_empty() {
+            return Ok(());
+        }
+        let (group, energies) = lodging(words, quarters, &mut files)?;
+        schedules.lodged[group as usize - 1] = Some(energies);
+        Ok(())
+    });
+    if !complaints.is_empty() {
+        return Err(input::wrong(name, &lines::told(complaints)));
+    }
+    if schedules.lodged.iter().all(Option::is_none) {
+        output::warn(&format!("{}: has no schedule; each is 0", schedules.name));
+    }
+    Ok(schedules)
+}

@@ -1,0 +1,5 @@
+pub mod Overs
+pub mod Balance
+pub mod Months
+pub mod Reports
+pub mod Numbers

@@ -1,0 +1,5 @@
+pub mod Deviation
+pub mod Place
+pub mod Month
+pub mod Bytes
+pub mod Laws
