@@ -7,8 +7,8 @@
     crates/entry/proofs/open/open/Proof.antt
     crates/entry/proofs/lodge/lodge/Proof.antt
     crates/entry/proofs/apply/apply/Proof.antt
-    crates/test_drive/proofs/via/via_apply/Proof.antt
-    crates/test_drive/proofs/via/via_lodge/Proof.antt
+    crates/script_call/proofs/via/via_apply/Proof.antt
+    crates/script_call/proofs/via/via_lodge/Proof.antt
 
 Run it where a function's parameters change. It reads them from the crates' sources; the same sources give the same files. Two forms are known:
 
@@ -27,7 +27,7 @@ from pathlib import Path
 ROOT = Path(__file__).resolve().parent.parent
 ENTRY = 'entry'
 # a function, its crate and its module there
-WALKS = {'open': (ENTRY, 'open'), 'lodge': (ENTRY, 'lodge'), 'apply': (ENTRY, 'apply'), 'via_apply': ('test_drive', 'via'), 'via_lodge': ('test_drive', 'via')}
+WALKS = {'open': (ENTRY, 'open'), 'lodge': (ENTRY, 'lodge'), 'apply': (ENTRY, 'apply'), 'via_apply': ('script_call', 'via'), 'via_lodge': ('script_call', 'via')}
 
 
 # ---- what the sources say

@@ -57,10 +57,10 @@ use Rattle.entry.proofs.lodge.lodge as callee
 use Rattle.entry.proofs.lodge.lodge.Symbol as callee-def
 use Rattle.entry.proofs.lodge.lodge.Symbol.{name as #callee}
 use Rattle.entry.proofs.lodge.lodge.Met as callee-thm
-use Rattle.test_drive.proofs.via.via_lodge as here
-use Rattle.test_drive.proofs.via.via_lodge.Key.{name as #here}
-use Rattle.test_drive.proofs.via.via_lodge.Statement as stated
-use Rattle.test_drive.proofs.via.via_lodge.Code as code
+use Rattle.script_call.proofs.via.via_lodge as here
+use Rattle.script_call.proofs.via.via_lodge.Key.{name as #here}
+use Rattle.script_call.proofs.via.via_lodge.Statement as stated
+use Rattle.script_call.proofs.via.via_lodge.Code as code
 
 abbrev stayed : Stays (here.ended .signature .params) (here.ended .kept)
 stayed = (said (plain (λ _. Deskᵀ.the-row)), (said (plain (λ _. u64)), (said (plain (λ _. Dayᵀ.the-row)), (said (shrSliceOf (0 ∷ []) tt (plain (λ _. u64))), (said (mutSliceOf (1 ∷ []) tt (plain (λ _. u64))), tt)))))

@@ -5,8 +5,8 @@ use borrow.Author.Needs.{needs}
 use Rattle.state.specs.Status.{statusNumber}
 use Rattle.state.specs.declared.Status.{Status}
 use Rattle.state.specs.declared.Status.the-variants.{Check, Settlement, Settled, Correction, CorrectionSettled}
-use Rattle.test_drive.proofs.script.number_in.Statement.{statement}
-use Rattle.test_drive.proofs.script.number_in.Tie as tie
+use Rattle.script_call.proofs.call.number_in.Statement.{statement}
+use Rattle.script_call.proofs.call.number_in.Tie as tie
 
 five : (s : Status) → statusNumber s ≤ 5
 five Check = omega arith

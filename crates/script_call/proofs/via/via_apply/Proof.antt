@@ -58,10 +58,10 @@ use Rattle.entry.proofs.apply.apply as callee
 use Rattle.entry.proofs.apply.apply.Symbol as callee-def
 use Rattle.entry.proofs.apply.apply.Symbol.{name as #callee}
 use Rattle.entry.proofs.apply.apply.Met as callee-thm
-use Rattle.test_drive.proofs.via.via_apply as here
-use Rattle.test_drive.proofs.via.via_apply.Key.{name as #here}
-use Rattle.test_drive.proofs.via.via_apply.Statement as stated
-use Rattle.test_drive.proofs.via.via_apply.Code as code
+use Rattle.script_call.proofs.via.via_apply as here
+use Rattle.script_call.proofs.via.via_apply.Key.{name as #here}
+use Rattle.script_call.proofs.via.via_apply.Statement as stated
+use Rattle.script_call.proofs.via.via_apply.Code as code
 
 abbrev stayed : Stays (here.ended .signature .params) (here.ended .kept)
 stayed = (said (plain (λ _. Deskᵀ.the-row)), (said (plain (λ _. DeskCallᵀ.the-row)), (said (plain (λ _. Array u64 17)), (said (shrSliceOf (0 ∷ []) tt (plain (λ _. u64))), (said (mutSliceOf (1 ∷ []) tt (plain (λ _. u64))), (said (mutSliceOf (2 ∷ []) tt (plain (λ _. u64))), (said (mutSliceOf (3 ∷ []) tt (plain (λ _. u64))), (said (mutSliceOf (4 ∷ []) tt (plain (λ _. u64))), tt))))))))
