@@ -1,16 +1,13 @@
 -- The lengths of the stores of a call that the table does not refuse. Assumes nothing.
 use mathlib.Core.Path.{_≡_}
 use mathlib.Core.Bool.{false, not}
-use mathlib.Core.List.{List}
-use Prim.Native.Nat.{ℕ, _+_, _*_}
-use native.Mathlib.Omega.{arith}
-use borrow.Author.Tests.{eqb-true, ltb-false, not-false}
+use Prim.Native.Nat.{ℕ}
+use borrow.Author.Tests.{eqb-true, not-false}
 use lib.Dec.{eqb}
-use lib.ListN.{length}
 use Rattle.quantity.proofs.Tests.{or-left, or-right}
 use Rattle.state.specs.declared.Opening.{Opening}
 use Rattle.model.specs.Call.{Lengths, allButSchedules}
-use Rattle.model.specs.Causes.{otherLengths, logFull}
+use Rattle.model.specs.Causes.{otherLengths}
 use Rattle.checks.specs.Lent.{lengthsIn}
 use Rattle.checks.specs.declared.Sizes.{Sizes}
 

@@ -4,7 +4,6 @@ use mathlib.Core.Path.{_≡_, refl, sym, ap, _∙_}
 use mathlib.Core.Bool.{Bool, true, false, _&&_, true≢false}
 use mathlib.Core.List.{List, [], _∷_, map}
 use native.Mathlib.Nat.{min-le-left}
-use native.Mathlib.Omega.{arith}
 use borrow.Author.Tests.{leb-true}
 use lib.Dec.{leb}
 use lib.ListN.{length, take, drop, length-take, length-map}
@@ -12,13 +11,13 @@ use lib.Seq.{take-at}
 use Rattle.quantity.proofs.Tests.{and-left, and-right}
 use Rattle.message.specs.File.{callsIn}
 use Rattle.model.specs.Call.{Call, Stores, Lengths, lengthsOf, Told, Reply, answerNumber}
-use Rattle.model.specs.Plain.{viewIn, plainReplies, plainEnd, plainNext}
+use Rattle.model.specs.Plain.{viewIn, plainReplies, plainNext}
 use Rattle.model.specs.View.{View}
 use Rattle.replay.specs.Feeding.{toldAs, tells}
 use Rattle.replay.specs.Given.{Given, given, givenIn}
 use Rattle.replay.specs.Replay.{callsFor, toldOf, numbersOf, over, Replays}
 use Rattle.replay.specs.declared.Replayed.{Replayed}
-use Rattle.host.specs.Replay.{endingNumber, endingOffset, summaryPlaces, fits, fitting, listed, Places, placesOf, Summarised}
+use Rattle.host.specs.Replay.{endingNumber, endingOffset, summaryPlaces, fits, fitting, listed, Places, Summarised}
 use Rattle.summary.specs.Table.{pointsPlaces, versionsPlaces, pointTable, versionTable, refusals, firstRefused}
 use Rattle.summary.specs.declared.Refusals.{Refusals}
 

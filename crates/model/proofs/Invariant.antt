@@ -6,7 +6,6 @@ use mathlib.Core.List.{List, _∷_}
 use native.Mathlib.Omega.{arith}
 use borrow.Author.Tests.{le-leb, eqb-true, ne-eqb}
 use lib.Dec.{eqb}
-use lib.IntN.{ℤ}
 use lib.ListN.{length, take}
 use lib.Seq.{length-take-le}
 use Rattle.quantity.specs.Limits.{points, versions, deltas, bookRows, scheduleRows, quartersOk, deadlinesOk, dayOk, groupOk}
@@ -29,7 +28,6 @@ use Rattle.model.specs.Series.{figureOf}
 use Rattle.model.specs.Step.{granting, refusalBy, replyOf}
 use Rattle.model.specs.View.{viewOf}
 use Rattle.model.specs.declared.Cause.the-variants.{NotOpen}
-use Rattle.model.specs.declared.LogRow.{LogRow}
 use Rattle.model.proofs.Amends.{Stored}
 use Rattle.model.proofs.Books.{Booked}
 use Rattle.model.proofs.Schedules.{Scheduled}

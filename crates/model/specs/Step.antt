@@ -1,6 +1,6 @@
 -- The running desk: one step on its state and what is lent to it, refusals included. It is total: any state, any stores, any numbers.
 use Prim.Native.Nat.{ℕ, _*_}
-use mathlib.Core.Bool.{Bool, true, false, cond, not, _&&_}
+use mathlib.Core.Bool.{cond, not, _&&_}
 use mathlib.Core.List.{List, [], map}
 use lib.ListN.{getD, set, replicate}
 use Rattle.quantity.specs.Limits.{bookRows, scheduleRows}

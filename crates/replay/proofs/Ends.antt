@@ -3,7 +3,7 @@ use Prim.Native.Nat.{ℕ, _+_, _*_, _≤_, _<_}
 use mathlib.Core.Path.{_≡_, refl, sym, ap, _∙_}
 use mathlib.Core.List.{List, []}
 use native.Mathlib.Omega.{arith}
-use lib.ListN.{length, getD, take, drop, replicate, length-replicate}
+use lib.ListN.{length, getD, replicate}
 use lib.Seq.{getD-take}
 use Rattle.quantity.specs.Limits.{runs, groups, runRows, bookRows, scheduleRows}
 use Rattle.quantity.specs.Word.{word, signed}

@@ -11,10 +11,11 @@ use Rattle.message.specs.Series.{filled}
 use Rattle.replay.specs.Feeding.{lentOf}
 use Rattle.replay.specs.Given.{Given, given}
 
--- the numbers of a store that are lent, and those behind them
+-- the numbers of a store that are lent
 abbrev pub firstOf : (rows quarters : ℕ) → List ℕ → List ℕ
 firstOf k q l = take (lentOf k (length l) q) l
 
+-- and those behind them
 abbrev pub behindOf : (rows quarters : ℕ) → List ℕ → List ℕ
 behindOf k q l = drop (lentOf k (length l) q) l
 

@@ -73,17 +73,8 @@ pub fn run_file(
         };
         let place = place_in(call);
         let p = desk.points[place];
-        let out = lend_call(
-            desk,
-            p,
-            call,
-            groups,
-            &series[0..count],
-            values,
-            book,
-            log,
-            schedules,
-        );
+        let sent = &series[0..count];
+        let out = lend_call(desk, p, call, groups, sent, values, book, log, schedules);
         let answer = out.answer;
         answers[answered] = number_of(answer);
         let effect = out.effect;

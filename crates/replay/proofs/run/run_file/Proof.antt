@@ -104,14 +104,14 @@ mul-p c = let h = record-place c in omega (arith, h)
 element-copy-out-p : tie.Need-element-copy-out-p Inv-loop μ-loop
 element-copy-out-p c = record-place c
 
-sub-lend-call : tie.Need-sub-lend-call Inv-loop μ-loop
-sub-lend-call c = search needs
+sub-sent : tie.Need-sub-sent Inv-loop μ-loop
+sub-sent c = search needs
 
-part-lend-call-start : tie.Need-part-lend-call-start Inv-loop μ-loop
-part-lend-call-start c = search needs
+part-sent-start : tie.Need-part-sent-start Inv-loop μ-loop
+part-sent-start c = search needs
 
-part-lend-call-end : tie.Need-part-lend-call-end Inv-loop μ-loop
-part-lend-call-end c =
+part-sent-end : tie.Need-part-sent-end Inv-loop μ-loop
+part-sent-end c =
     let read = c .before .before .before .before .before .before .before .before .before in
     energies-inside (c .before .before .before .before .before .before .before .before .before .before .before .before .loop .inv) (step-read (read .read-call .ensures .0) ∙ c .before .before .before .before .step .given .1) (read .read-call .ensures .1)
 
@@ -236,9 +236,9 @@ run-file-spec =
     place-in-requires
     mul-p
     element-copy-out-p
-    sub-lend-call
-    part-lend-call-start
-    part-lend-call-end
+    sub-sent
+    part-sent-start
+    part-sent-end
     lend-call-requires
     number-of-requires
     mul-answers

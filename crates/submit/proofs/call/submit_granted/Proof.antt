@@ -1,7 +1,7 @@
 -- `submit_granted` meets its contract. Assumes nothing.
-use mathlib.Core.Path.{_≡_, refl, sym, ap, _∙_}
-use mathlib.Core.List.{List, map}
-use Prim.Native.Nat.{ℕ, _+_, _*_, _≤_}
+use mathlib.Core.Path.{_≡_, refl, ap, _∙_}
+use mathlib.Core.List.{map}
+use Prim.Native.Nat.{_+_, _*_, _≤_}
 use native.Mathlib.Nat.{mul-le-mul-right}
 use native.Mathlib.Omega.{arith}
 use lib.ListN.{length, set}
@@ -11,7 +11,7 @@ use Rattle.state.specs.Desk.{rowsIn, versionsIn, deskWith, theDay, theUsed, the
 use Rattle.state.specs.declared.VersionRecord.{VersionRecord}
 use Rattle.state.proofs.Bounds.{state-in, rows-fit, fit-rows}
 use Rattle.model.specs.Series.{sidesOf}
-use Rattle.model.specs.Step.{amendBy, amended, versionBy}
+use Rattle.model.specs.Step.{amendBy, amended}
 use Rattle.model.specs.declared.Turn.{Turn}
 use Rattle.amend.proofs.Stored.{words-signed}
 use Rattle.amend.proofs.Within.{turn-in}
