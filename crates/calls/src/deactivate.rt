@@ -21,7 +21,6 @@ use state::Desk;
 use state::PointRecord;
 use state::PointState;
 use state::changes::put_point;
-use state::selections::is_selected;
 ghost use mathlib.Core.Path.{_≡_};
 ghost use Rattle.state.specs.Effect.{changedBy, Fits};
 ghost use Rattle.model.specs.Call.{Lengths, deactivates, telling};
@@ -44,7 +43,7 @@ fn deactivate_ruling(d: Desk, l: Look, point: PointNo, day: Day) -> Ruling
     let v2 = or_if(v1, day.0 < frame.day.0, Cause::PastDay);
     let v3 = or_if(v2, opening.correction.0 < day.0, Cause::AfterCorrection);
     let v4 = or_if(v3, !is_active(here), Cause::NotActive);
-    or_if(v4, is_selected(highest), Cause::HasVersion)
+    or_if(v4, highest.0 != 0, Cause::HasVersion)
 }
 
 // What is decided, by one look at the desk.

@@ -55,6 +55,16 @@ unfolding fold orIf
 stays x [] = refl
 stays x (r ∷ l) = stays x l
 
+-- a check below others, l, whose test agrees with the table's where the desk is within its limits: on another cause 1 is said whatever it says
+pub checked-within : (d : Desk) (l : List Rule) {v r : Ruling} {t s : Bool} (c : Cause) → r ≡ orIf v t c → v ≡ fold orRule (orIf Fine (not (validDesk d)) NotOpen) l
+    → (validDesk d ≡ true → t ≡ s) → r ≡ orIf (fold orRule (orIf Fine (not (validDesk d)) NotOpen) l) s c
+unfolding orIf
+checked-within d l {v = v} {r = r} {t = t} {s = s} c e h k = go (validDesk d) k h
+  where
+    go : (b : Bool) → (b ≡ true → t ≡ s) → v ≡ fold orRule (orIf Fine (not b) NotOpen) l → r ≡ orIf (fold orRule (orIf Fine (not b) NotOpen) l) s c
+    go true k h = checked c e h (k refl)
+    go false k h = let g = h ∙ stays NotOpen l in rw (stays NotOpen l) (rw g at e)
+
 module _ (d : Desk) (t : Told) (asked : terms (t .call) .opening ≡ false) where
   -- a desk outside its limits: cause 1
   pub unfit : validDesk d ≡ false → refusalBy d t ≡ Refuse NotOpen

@@ -3,3 +3,4 @@ pub mod Look
 pub mod Picks
 pub mod Stepped
 pub mod Survey
+pub mod Walked

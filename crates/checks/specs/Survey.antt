@@ -3,11 +3,11 @@ use Prim.Native.Nat.{ℕ, _-_}
 use mathlib.Core.Path.{_≡_}
 use mathlib.Core.Bool.{cond}
 use mathlib.Core.List.{List}
-use lib.ListN.{getD}
+use lib.ListN.{length, getD}
 use Rattle.quantity.specs.Limits.{pointOk}
 use Rattle.quantity.specs.Lists.{all, any}
 use Rattle.state.specs.Point.{freePoint, hasSeries}
-use Rattle.state.specs.Selection.{raiseIf, best, isCounted, own}
+use Rattle.state.specs.Selection.{raiseIf, highest, noVersion, higherOf, isCounted, own}
 use Rattle.state.specs.Valid.{pointRecordOk, versionRecordOk}
 use Rattle.state.specs.Version.{isAt, orHeld, held}
 use Rattle.state.specs.declared.Held.the-variants.{Absent}
@@ -36,12 +36,13 @@ stateIn r p = cond (pointOk p) (r .state) Free
 
 -- ---- the walks
 
--- what a walk over the versions finds, by point and version asked for
+-- "one pass is to give both": what a walk over the versions finds, by point and version asked for; "the number of records it read": one for each
 pub record Surveyed (point version : ℕ) (vs : List VersionRecord) (s : Survey) : Type 0 where
   pub held : s .held ≡ held point version vs
-  pub highest : s .highest ≡ best (isAt point) vs
+  pub highest : s .highest .0 ≡ highest point vs
   pub first : s .first ≡ own 1 point vs
   pub second : s .second ≡ own 2 point vs
+  pub read : s .read ≡ length vs
 
 -- the same, and whether each record is within its limits
 pub record TestedIn (rows point version : ℕ) (vs : List VersionRecord) (t : Tested) : Type 0 where
@@ -50,17 +51,22 @@ pub record TestedIn (rows point version : ℕ) (vs : List VersionRecord) (t : Te
 
 -- in no record
 abbrev pub nothingFound : Survey
-nothingFound = record { held = Absent; highest = None; first = None; second = None }
+nothingFound = record { held = Absent; highest = noVersion; first = None; second = None; read = 0 }
 
--- one record more
+-- one record of the point more, at an index
 abbrev pub surveyStep : (point version : ℕ) → Survey → (at : ℕ) → VersionRecord → Survey
 surveyStep p x s i v =
     record {
       held = orHeld p x (s .held) i v;
-      highest = raiseIf (isAt p) (s .highest) i v;
+      highest = higherOf (s .highest) (isAt p v) (v .version);
       first = raiseIf (isCounted 1 p) (s .first) i v;
       second = raiseIf (isCounted 2 p) (s .second) i v;
+      read = s .read;
     }
+
+-- so many records read
+abbrev pub reading : (records : ℕ) → Survey → Survey
+reading n s = record { held = s .held; highest = s .highest; first = s .first; second = s .second; read = n }
 
 -- what a walk over the points finds, by kind, area and partner asked for
 pub record Scanned (kind area partner : ℕ) (ps : List PointRecord) (s : Scan) : Type 0 where

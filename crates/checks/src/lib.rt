@@ -11,18 +11,21 @@ pub mod stores;
 pub mod surveys;
 
 use model::Answer;
+use quantity::Version;
 use state::Desk;
 use state::Effect;
 use state::Held;
 use state::PointState;
 use state::Selection;
 
-// What one walk over the versions finds: the version asked for, and of the point asked for the highest version, run 1's selection and run 2's own.
+// What one walk over the versions finds: the version asked for, and of the point asked for the highest version (0 without one), run 1's selection and
+// run 2's own; and how many records it read.
 pub struct Survey {
     pub held: Held,
-    pub highest: Selection,
+    pub highest: Version,
     pub first: Selection,
     pub second: Selection,
+    pub read: u64,
 }
 
 // The same, and whether each record held is within its limits.

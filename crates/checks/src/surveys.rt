@@ -8,6 +8,7 @@ use quantity::limits::VERSIONS;
 use state::Held;
 use state::Selection;
 use state::VersionRecord;
+use state::selections::higher;
 use state::selections::is_at;
 use state::selections::is_counted;
 use state::selections::is_version;
@@ -42,9 +43,10 @@ pub fn nothing_found() -> Survey
 {
     Survey {
         held: Held::Absent,
-        highest: Selection::None,
+        highest: Version(0),
         first: Selection::None,
         second: Selection::None,
+        read: 0,
     }
 }
 
@@ -59,9 +61,10 @@ fn surveyed(s: Survey, at: u64, v: VersionRecord, point: PointNo, version: Versi
     let row = row_at(at, v);
     Survey {
         held: or_held(held, at, v, point, version),
-        highest: raised_if(is_at(v, point), highest, row),
+        highest: higher(highest, is_at(v, point), v.version),
         first: raised_if(is_counted(v, 1, point), first, row),
         second: raised_if(is_counted(v, 2, point), second, row),
+        read: s.read,
     }
 }
 
@@ -76,7 +79,7 @@ pub fn records_in(count: u64) -> usize
     }
 }
 
-// No limit is tested.
+// No limit is tested. A record is read at the number of those read before it, and nowhere else.
 pub fn survey(
     versions: [VersionRecord; VERSIONS as usize],
     count: u64,
@@ -87,16 +90,20 @@ pub fn survey(
 {
     let mut s = nothing_found();
     let n = records_in(count);
-    for i in 0..n {
-        let v = versions[i];
+    let mut read = 0;
+    while read < n {
+        let at = read;
+        let v = versions[at];
+        read += 1;
         if is_at(v, point) {
-            s = surveyed(s, i as u64, v, point, version);
+            s = surveyed(s, at as u64, v, point, version);
         }
     }
+    s.read = read as u64;
     s
 }
 
-// A record of another point is only asked whether it fits.
+// The same with the limits of each record; one of another point is only asked whether it fits.
 pub fn survey_tested(
     versions: [VersionRecord; VERSIONS as usize],
     count: u64,
@@ -109,12 +116,16 @@ pub fn survey_tested(
     let mut fit = true;
     let mut s = nothing_found();
     let n = records_in(count);
-    for i in 0..n {
-        let v = versions[i];
+    let mut read = 0;
+    while read < n {
+        let at = read;
+        let v = versions[at];
+        read += 1;
         fit = fit & version_record_ok(v, rows);
         if is_at(v, point) {
-            s = surveyed(s, i as u64, v, point, version);
+            s = surveyed(s, at as u64, v, point, version);
         }
     }
+    s.read = read as u64;
     Tested { fit, survey: s }
 }

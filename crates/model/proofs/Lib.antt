@@ -7,6 +7,7 @@ pub mod CauseNumbers
 pub mod ChangeLaws
 pub mod Changing
 pub mod Corollaries
+pub mod Deliveries
 pub mod Demands
 pub mod Deviations
 pub mod Ends

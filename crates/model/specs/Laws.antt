@@ -18,7 +18,7 @@ use Rattle.state.specs.declared.Selection.the-variants.{None, Selected}
 use Rattle.state.specs.declared.Status.{Status}
 use Rattle.state.specs.declared.VersionRecord.{VersionRecord}
 use Rattle.state.specs.declared.VersionRow.{VersionRow}
-use Rattle.model.specs.Call.{Call, opens, activates, deactivates, submits, notices, assigns, shows, asks, settles, lodges, reports, Lengths}
+use Rattle.model.specs.Call.{Call, opens, activates, deactivates, submits, notices, assigns, shows, asks, settles, lodges, reports, Lengths, Told}
 use Rattle.model.specs.Causes.{Rule}
 use Rattle.model.specs.Log.{logWords}
 use Rattle.model.specs.Plain.{Worked}
@@ -155,6 +155,25 @@ pub record Delivers (point version day : ℕ) (energies : List ℤ) (before afte
   pub others : (j : ℕ) → j < length (before .versions) → recordAt (after .versions) j ≡ recordAt (before .versions) j
   pub series : getD (after .energies) (length (before .energies)) [] ≡ energies
   pub earlier : (j : ℕ) → j < length (before .energies) → getD (after .energies) j [] ≡ getD (before .energies) j []
+
+-- one for a submission
+abbrev pub submissionBy : Call → ℕ
+submissionBy (opens q f c k gs) = 0
+submissionBy (activates p k a b d) = 0
+submissionBy (deactivates p d) = 0
+submissionBy (submits p x d es) = 1
+submissionBy (notices p x y d) = 0
+submissionBy (assigns a g d) = 0
+submissionBy (shows r g) = 0
+submissionBy (asks p x) = 0
+submissionBy (settles r d) = 0
+submissionBy (lodges g d es) = 0
+submissionBy (reports r g) = 0
+
+-- how many submissions a list of accepted calls has
+unfoldable pub submissions : List Told → ℕ
+submissions [] = 0
+submissions (t ∷ h) = submissionBy (t .call) + submissions h
 
 -- document 02: "group g, quarter q at (g-1) × Q + q-1": a group's energies stand there, and every other number of the schedules is as it was
 pub record Lodges (quarters group : ℕ) (energies : List ℤ) (before after : List ℕ) : Type 0 where

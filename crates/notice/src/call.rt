@@ -41,7 +41,6 @@ use state::changes::restated;
 use state::effects::unchanged;
 use state::selections::raised_earlier;
 use state::selections::row_at;
-use state::selections::version_of;
 use state::statuses::confirmed_status;
 use state::statuses::counts_in;
 use state::statuses::is_check;
@@ -129,8 +128,7 @@ fn notice_ruling(
     let k4 = or_if(k3, o.correction.0 < day.0, Cause::AfterCorrection);
     let k5 = or_if(k4, !is_active(here), Cause::NotActive);
     let k6 = or_if(k5, absent(held), Cause::NoVersion);
-    let above = version_of(highest);
-    let k7 = or_if(k6, version.0 < above.0, Cause::NoticeBelow);
+    let k7 = or_if(k6, version.0 < highest.0, Cause::NoticeBelow);
     let k8 = or_if(k7, not_check(held), Cause::NotCheckData);
     or_if(k8, log_full(f.used, o.log, due), Cause::NoLogRow)
 }

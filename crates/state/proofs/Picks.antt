@@ -1,8 +1,8 @@
 -- Laws of the pick of a version, for any table: the selected version counts and no higher one does, the version found is the one asked for,
 -- and which changes leave them. Assumes nothing.
-use Prim.Native.Nat.{ℕ, suc, _≤_, _<_}
+use Prim.Native.Nat.{ℕ, zero, suc, _≤_, _<_}
 use mathlib.Core.Path.{_≡_, refl, sym, ap, _∙_, subst}
-use mathlib.Core.Bool.{Bool, true, false, cond, _||_, and-false, or-false, or-assoc, false≢true}
+use mathlib.Core.Bool.{Bool, true, false, cond, not, _||_, and-false, or-false, or-assoc, false≢true}
 use mathlib.Core.List.{List, [], _∷_}
 use mathlib.Core.Logic.{_⊎_, inl, inr}
 use native.Mathlib.Decide.{ℕ-discrete}
@@ -11,12 +11,16 @@ use borrow.Author.Tests.{leb-true, leb-false, ltb-true, ltb-false, eqb-true, ne-
 use lib.Dec.{leb, ltb, eqb}
 use lib.ListN.{length, set, length-set}
 use lib.Seq.{getD-set-same, getD-set-other}
+use Rattle.quantity.proofs.Lists.{all-in}
 use Rattle.quantity.proofs.Tests.{by-test, and-left, and-right}
-use Rattle.quantity.specs.Lists.{any}
+use Rattle.quantity.specs.Limits.{pointOk, versionOk}
+use Rattle.quantity.specs.Lists.{all, any}
+use Rattle.quantity.specs.declared.Version.{Version}
 use Rattle.state.proofs.Lists.{walk-last, walk-set, walk-keeps}
 use Rattle.state.specs.Change.{submitted}
-use Rattle.state.specs.Selection.{rowAt, raise, raiseEarlier, raiseIf, best, isSelected, versionOf, highest, isCounted, own, orElse, withStatus, SameVersion, inRun, selected, IsHighest, Highest, Tells}
+use Rattle.state.specs.Selection.{rowAt, raise, raiseEarlier, raiseIf, best, isSelected, versionOf, highest, noVersion, higherOf, isCounted, own, orElse, withStatus, SameVersion, inRun, selected, IsHighest, Highest, Tells}
 use Rattle.state.specs.Status.{statusNumber, counts}
+use Rattle.state.specs.Valid.{versionRecordOk}
 use Rattle.state.specs.Walk.{walk}
 use Rattle.state.specs.Version.{emptyVersion, recordAt, isAt, isVersion, orHeld, held, HeldIn}
 use Rattle.state.specs.declared.Held.{Held}
@@ -223,6 +227,35 @@ best-any f vs = go None 0 vs
     go : (s : Selection) (i : ℕ) (l : List VersionRecord) → isSelected (walk (raiseIf f) s i l) ≡ (isSelected s || any f l)
     go s i [] = sym (or-false (isSelected s))
     go s i (v ∷ l) = go (raiseIf f s i v) (suc i) l ∙ rw (raise-selected f s i v, or-assoc)
+
+-- a record put beside the highest so far has its number or keeps the one so far
+pub number-raised : (s : Selection) (t : Version) (c : Bool) (i : ℕ) (v : VersionRecord) → t .0 ≡ versionOf s → versionOf (cond c (raise s (rowAt i v)) s) ≡ higherOf t c (v .version) .0
+number-raised s t false i v e = sym e
+number-raised None t true i v e = rw e (go (v .version .0))
+  where
+    number : ℕ → Version
+    number n = record { 0 = n }
+
+    go : (n : ℕ) → n ≡ cond (ltb 0 n) (number n) noVersion .0
+    go zero = refl
+    go (suc n) = rw (lt-ltb 0 (suc n) (omega arith))
+number-raised (Selected r) t true i v e = rw e (go (ltb (r .version .0) (v .version .0)))
+  where
+    go : (b : Bool) → versionOf (cond b (Selected (rowAt i v)) (Selected r)) ≡ cond b (v .version) (r .version) .0
+    go true = refl
+    go false = refl
+
+-- "the highest as 0 without a version": of versions with numbers from 1 on it is 0 only there
+pub highest-any : (p rows : ℕ) (vs : List VersionRecord) → all (versionRecordOk rows) vs ≡ true → not (eqb (highest p vs) 0) ≡ any (isAt p) vs
+highest-any p rows vs ok = go (best (isAt p) vs) (best-highest (isAt p) vs) (best-any (isAt p) vs)
+  where
+    go : (s : Selection) → Highest (isAt p) vs (length vs) s → isSelected s ≡ any (isAt p) vs → not (eqb (versionOf s) 0) ≡ any (isAt p) vs
+    go None h e = e
+    go (Selected r) h e =
+        let x = recordAt vs (r .at) .version .0 in
+        let there = and-left (versionOk x) _ (and-right (pointOk (recordAt vs (r .at) .point .0)) _ (all-in (versionRecordOk rows) vs (r .at) emptyVersion ok (h .within))) in
+        let some : 1 ≤ r .version .0 = omega (arith, leb-true 1 x (and-left (leb 1 x) _ there), ap number (h .here)) in
+        rw (ne-eqb (r .version .0) 0 (λ z. omega arith)) e
 
 module _ (p x : ℕ) (vs : List VersionRecord) where
   -- the version found is the one asked for, and the first record of it

@@ -14,12 +14,13 @@ use Rattle.quantity.proofs.Tests.{and-left, within-low, within-high}
 use Rattle.quantity.specs.Limits.{points, pointOk}
 use Rattle.quantity.specs.declared.Version.{Version}
 use Rattle.state.proofs.Lists.{walk-more}
+use Rattle.state.proofs.Picks.{number-raised}
 use Rattle.state.specs.Change.{settleBy, settle}
 use Rattle.state.specs.Desk.{rowsIn, versionsIn}
 use Rattle.state.specs.Valid.{versionRecordOk, Sound}
 use Rattle.state.specs.declared.Desk.{Desk}
-use Rattle.state.specs.Selection.{rowAt, raise, raiseIf, best, isCounted, own, versionOf}
-use Rattle.state.specs.Settling.{PointsIn, higherOf, noVersion, Tops}
+use Rattle.state.specs.Selection.{rowAt, raise, raiseIf, best, noVersion, higherOf, isCounted, own, versionOf}
+use Rattle.state.specs.Settling.{PointsIn, Tops}
 use Rattle.state.specs.Status.{counts}
 use Rattle.state.specs.Version.{emptyVersion}
 use Rattle.state.specs.Walk.{walk}
@@ -43,23 +44,6 @@ point-in vs n i h k l =
 
 pub point-range : (vs : List VersionRecord) (n i : ℕ) → PointsIn (take n vs) → n ≤ length vs → i < n → (1 ≤ getD vs i emptyVersion .point .0) × (getD vs i emptyVersion .point .0 ≤ 256)
 point-range vs n i h k l = let e = point-in vs n i h k l in (within-low 1 256 _ e, within-high 1 256 _ e)
-
--- a record put beside the highest so far has its number or keeps the one so far
-raised : (s : Selection) (t : Version) (c : Bool) (i : ℕ) (v : VersionRecord) → t .0 ≡ versionOf s → versionOf (cond c (raise s (rowAt i v)) s) ≡ higherOf t c (v .version) .0
-raised s t false i v e = sym e
-raised None t true i v e = rw e (go (v .version .0))
-  where
-    number : ℕ → Version
-    number n = record { 0 = n }
-
-    go : (n : ℕ) → n ≡ cond (ltb 0 n) (number n) noVersion .0
-    go zero = refl
-    go (suc n) = rw (lt-ltb 0 (suc n) (omega arith))
-raised (Selected r) t true i v e = rw e (go (ltb (r .version .0) (v .version .0)))
-  where
-    go : (b : Bool) → versionOf (cond b (Selected (rowAt i v)) (Selected r)) ≡ cond b (v .version) (r .version) .0
-    go true = refl
-    go false = refl
 
 module _ (run : ℕ) (vs : List VersionRecord) where
   pub tops-none : Tops run (take 0 vs) (replicate points noVersion)
@@ -87,7 +71,7 @@ module _ (run : ℕ) (vs : List VersionRecord) where
       new = higherOf top (counts run (v .status)) (v .version)
 
       mine : new .0 ≡ versionOf (own run q (take (i + 1) vs))
-      mine = sym (more q ∙ raised (own run q (take i vs)) top (isCounted run q v) i v (f .each q k) ∙ rw (eq-eqb q q refl))
+      mine = sym (more q ∙ number-raised (own run q (take i vs)) top (isCounted run q v) i v (f .each q k) ∙ rw (eq-eqb q q refl))
 
       go : (p : ℕ) → pointOk p ≡ true → Dec (q ≡ p) → getD (set t (q - 1) new) (p - 1) noVersion .0 ≡ versionOf (own run p (take (i + 1) vs))
       go p ok (yes e) = rw (← e, getD-set-same t (q - 1) new noVersion (omega (arith, f .size, within-low 1 256 q k, within-high 1 256 q k))) mine

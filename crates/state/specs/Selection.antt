@@ -5,6 +5,7 @@ use mathlib.Core.Bool.{Bool, true, false, cond, _&&_}
 use mathlib.Core.List.{List}
 use lib.Dec.{leb, ltb, eqb}
 use lib.ListN.{length}
+use Rattle.quantity.specs.declared.Version.{Version}
 use Rattle.state.specs.Status.{statusNumber, counts}
 use Rattle.state.specs.Version.{isAt, recordAt}
 use Rattle.state.specs.Walk.{walk}
@@ -55,6 +56,14 @@ statusOf (Selected r) = statusNumber (r .status)
 -- "the point's highest", 0 without a version
 abbrev pub highest : (point : ℕ) → List VersionRecord → ℕ
 highest p vs = versionOf (best (isAt p) vs)
+
+-- the number without a version
+abbrev pub noVersion : Version
+noVersion = record { 0 = 0 }
+
+-- the higher of two versions, where the second counts
+abbrev pub higherOf : (top : Version) → Bool → (version : Version) → Version
+higherOf t c n = cond (c && ltb (t .0) (n .0)) n t
 
 -- a version of the point whose status counts in the run
 abbrev pub isCounted : (run point : ℕ) → VersionRecord → Bool

@@ -8,7 +8,7 @@ use quantity::PointNo;
 use quantity::Version;
 ghost use mathlib.Core.Path.{_≡_};
 ghost use mathlib.Core.Bool.{cond};
-ghost use Rattle.state.specs.Selection.{rowAt, raise, raiseEarlier, isCounted, isSelected, versionOf, statusOf, orElse};
+ghost use Rattle.state.specs.Selection.{rowAt, raise, raiseEarlier, isCounted, higherOf, versionOf, statusOf, orElse};
 ghost use Rattle.state.specs.Version.{isAt, isVersion};
 
 pub fn is_at(v: VersionRecord, point: PointNo) -> bool
@@ -83,12 +83,14 @@ pub fn raised_if(test: bool, s: Selection, r: VersionRow) -> Selection
     if test { raised(s, r) } else { s }
 }
 
-pub fn is_selected(s: Selection) -> bool
-    ensures { λ r. ⌜ r ≡ isSelected s ⌝ }
+// The higher of two versions, where the second counts.
+pub fn higher(top: Version, counts: bool, version: Version) -> Version
+    ensures { λ r. ⌜ r ≡ higherOf top counts version ⌝ }
 {
-    match s {
-        Selection::None => false,
-        Selection::Selected(_) => true,
+    if counts & (top.0 < version.0) {
+        version
+    } else {
+        top
     }
 }
 

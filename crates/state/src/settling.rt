@@ -1,6 +1,7 @@
 // Settle over the whole version table, in two passes: the highest version that counts for each point, then exactly those restated.
 use crate::VersionRecord;
 use crate::changes::restated;
+use crate::selections::higher;
 use crate::statuses::counts_in;
 use crate::statuses::settled_status;
 use quantity::Version;
@@ -11,19 +12,9 @@ ghost use Prim.Native.Nat.{_≤_};
 ghost use lib.ListN.{take, replicate};
 ghost use Rattle.quantity.specs.Limits.{points, versions as mostVersions};
 ghost use Rattle.state.specs.Change.{settleBy, settle};
-ghost use Rattle.state.specs.Settling.{PointsIn, higherOf, noVersion};
+ghost use Rattle.state.specs.Selection.{noVersion};
+ghost use Rattle.state.specs.Settling.{PointsIn};
 ghost use Rattle.state.specs.Walk.{mapFirst};
-
-// The higher of two versions, where the second counts.
-pub fn higher(top: Version, counts: bool, version: Version) -> Version
-    ensures { λ r. ⌜ r ≡ higherOf top counts version ⌝ }
-{
-    if counts & (top.0 < version.0) {
-        version
-    } else {
-        top
-    }
-}
 
 // Nothing found yet.
 pub fn no_tops() -> [Version; POINTS as usize]

@@ -38,7 +38,6 @@ use state::VersionRow;
 use state::changes::new_version;
 use state::changes::put_version;
 use state::selections::raised_if;
-use state::selections::version_of;
 use state::statuses::counts_in;
 use state::statuses::submitted_status;
 ghost use mathlib.Core.Path.{_≡_};
@@ -122,8 +121,7 @@ fn submit_ruling(
     let k5 = or_if(k4, !is_active(here), Cause::NotActive);
     let k6 = or_if(k5, too_early(here, day), Cause::TooEarly);
     let k7 = or_if(k6, !absent(held), Cause::VersionPresent);
-    let above = version_of(highest);
-    let k8 = or_if(k7, version.0 < above.0, Cause::VersionBelow);
+    let k8 = or_if(k7, version.0 < highest.0, Cause::VersionBelow);
     let k9 = or_if(k8, no_row(f.count, o.quarters, o.values), Cause::NoRow);
     or_if(k9, log_full(f.used, o.log, due), Cause::NoLogRow)
 }

@@ -1,10 +1,15 @@
 -- `deactivate_ruling` meets its contract. Assumes nothing.
 use mathlib.Core.Path.{refl}
+use lib.ListN.{take}
 use Rattle.quantity.specs.Lists.{fold}
-use Rattle.model.specs.Causes.{firstOf}
+use Rattle.model.specs.Call.{deactivates}
+use Rattle.model.specs.Causes.{rules, firstOf}
 use Rattle.model.specs.Step.{refusalBy}
-use Rattle.checks.proofs.Deciding.{checked, begun}
-use Rattle.state.proofs.Picks.{best-any}
+use Rattle.model.specs.View.{viewOf}
+use Rattle.checks.proofs.Deciding.{checked, checked-within, begun}
+use Rattle.state.specs.Desk.{rowsIn, versionsIn}
+use Rattle.state.proofs.Bounds.{sound}
+use Rattle.state.proofs.Picks.{highest-any}
 use Rattle.calls.proofs.deactivate.deactivate_ruling.Statement.{statement}
 use Rattle.calls.proofs.deactivate.deactivate_ruling.Tie as tie
 
@@ -32,9 +37,6 @@ is-active-requires c κs = tt
 or-if-requires-4 : tie.Need-or-if-requires-4
 or-if-requires-4 c κs = tt
 
-is-selected-requires : tie.Need-is-selected-requires
-is-selected-requires c κs = tt
-
 or-if-requires-5 : tie.Need-or-if-requires-5
 or-if-requires-5 c κs = tt
 
@@ -44,8 +46,11 @@ returns c n =
     let c3 = c .before .before .before .before in
     let c1 = c3 .before .before .before .before .before .before in
     let o = c1 .before .before .before in
-    let k = o .before .before .before .before .pre in
-    checked _ (c .or-if5 .ensures)
+    let s = o .before .before .before .before .before in
+    let k = s .pre in
+    let d = s .args .d in
+    let above = take 5 (rules (viewOf d) n (deactivates (s .args .point .0) (s .args .day .0))) in
+    checked-within d above _ (c .or-if5 .ensures)
     (checked _ (c .before .before .or-if4 .ensures)
     (checked _ (c3 .or-if3 .ensures)
     (checked _ (c3 .before .before .before .or-if2 .ensures)
@@ -55,7 +60,7 @@ returns c n =
     refl)
     refl)
     (rw (c .before .before .before .is-active .ensures, k .here)))
-    (rw (c .before .is-selected .ensures, k .survey refl .highest) (best-any _ _))
+    (λ e. rw (k .survey refl .highest) (highest-any (s .args .point .0) (rowsIn (d .frame .opening)) (versionsIn d) (sound d e .versions)))
 
 pub deactivate-ruling-spec : {M : Type 1} → statement M
 deactivate-ruling-spec =
@@ -69,6 +74,5 @@ deactivate-ruling-spec =
     or-if-requires-3
     is-active-requires
     or-if-requires-4
-    is-selected-requires
     or-if-requires-5
     returns)

@@ -1,22 +1,20 @@
--- `survey` meets its contract. The loop's invariant: what was found is what the records passed have. Assumes nothing.
+-- `survey` meets its contract. The loop's invariant: what was found is what the records read have. Assumes nothing.
 use native.Mathlib.Omega.{arith}
 use Prim.Native.Nat.{_≤_, _-_}
-use mathlib.Core.Logic.{⊎-elim}
 use mathlib.Core.Path.{_≡_, sym, _∙_}
-use lib.ListN.{length, take, getD}
+use lib.ListN.{length, take}
 use borrow.Author.Needs.{needs}
 use Rattle.quantity.proofs.Lists.{length-of}
-use Rattle.state.specs.Version.{emptyVersion}
-use Rattle.checks.specs.Survey.{surveyStep, Surveyed}
-use Rattle.checks.proofs.Found.{found-none, found-more, other-point, records-taken}
+use Rattle.checks.specs.Survey.{reading, Surveyed}
+use Rattle.checks.proofs.Found.{found-none, found-more, found-other, records-taken}
 use Rattle.checks.proofs.surveys.survey.Statement.{statement}
 use Rattle.checks.proofs.surveys.survey.Tie as tie
 
 abbrev Inv-loop : tie.InvT-loop
-Inv-loop count point version versions s₀ n i₀ s i = (i ≤ n) × (n ≤ 512) × (length versions ≡ 512) × (take n versions ≡ take count versions) × Surveyed (point .0) (version .0) (take i versions) s
+Inv-loop count point version versions s₀ n read₀ s read = (read ≤ n) × (n ≤ 512) × (length versions ≡ 512) × (take n versions ≡ take count versions) × Surveyed (point .0) (version .0) (take read versions) (reading read s)
 
 abbrev μ-loop : tie.MeasureT-loop
-μ-loop count point version versions s₀ n i₀ s i = n - i
+μ-loop count point version versions s₀ n read₀ s read = n - read
 
 nothing-found-requires : tie.Need-nothing-found-requires Inv-loop μ-loop
 nothing-found-requires c κs = search needs
@@ -37,37 +35,37 @@ mul-v c = search needs
 array-copy-out-v : tie.Need-array-copy-out-v Inv-loop μ-loop
 array-copy-out-v c = search needs
 
+add-read : tie.Need-add-read Inv-loop μ-loop
+add-read c = search needs
+
 is-at-requires : tie.Need-is-at-requires Inv-loop μ-loop
 is-at-requires c κs = search needs
 
 surveyed-requires : tie.Need-surveyed-requires Inv-loop μ-loop
 surveyed-requires c κs = search needs
 
-add-i : tie.Need-add-i Inv-loop μ-loop
-add-i c = search needs
-
 loop-less : tie.Need-loop-less Inv-loop μ-loop
 loop-less c = search needs
 
 loop-again : tie.Need-loop-again Inv-loop μ-loop
 loop-again c =
-    let s = c .before .before .before in
-    let l = s .before .loop in
-    let a = s .before .before .before .before .args in
-    let v = getD (a .t1) (l .i) emptyVersion in
-    let step : c .if1 .s ≡ surveyStep (a .point .0) (a .version .0) (l .s) (l .i) v =
-    ⊎-elim (λ w. w .2 ∙ w .1 .ensures) (λ w. w .1 ∙ other-point (a .point .0) (a .version .0) (l .s) (l .i) v (sym (c .before .is-at .ensures) ∙ w .0 .left)) (c .if1 .came) in (
-      omega arith,
-      l .inv .1,
-      l .inv .2,
-      l .inv .3,
-      rw step (found-more (a .point .0) (a .version .0) (a .t1) (l .s) (l .i) (omega arith) (l .inv .4)),
-    )
+    let l = c .before .before .before .before .before .loop in
+    let a = c .before .before .before .before .before .before .before .before .args in
+    (omega arith, l .inv .1, l .inv .2, l .inv .3, rw (c .surveyed .ensures) (found-more (a .point .0) (a .version .0) (a .t1) (l .s) (l .read) (omega arith) (l .inv .4)))
+
+loop-less-2 : tie.Need-loop-less-2 Inv-loop μ-loop
+loop-less-2 c = search needs
+
+loop-again-2 : tie.Need-loop-again-2 Inv-loop μ-loop
+loop-again-2 c =
+    let l = c .before .before .before .before .loop in
+    let a = c .before .before .before .before .before .before .before .args in
+    (omega arith, l .inv .1, l .inv .2, l .inv .3, found-other (a .point .0) (a .version .0) (a .t1) (l .s) (l .read) (omega arith) (sym (c .before .is-at .ensures) ∙ c .if1 .left) (l .inv .4))
 
 returns : tie.Need-returns Inv-loop μ-loop
 returns c =
     let l = c .before .loop in
-    let e : l .i ≡ c .before .before .records-in .result = omega arith in
+    let e : l .read ≡ c .before .before .records-in .result = omega arith in
     rw (← l .inv .3, ← e) (l .inv .4)
 
 pub survey-spec : {M : Type 1} → statement M
@@ -81,9 +79,11 @@ survey-spec =
     loop-holds
     mul-v
     array-copy-out-v
+    add-read
     is-at-requires
     surveyed-requires
-    add-i
     loop-less
     loop-again
+    loop-less-2
+    loop-again-2
     returns)

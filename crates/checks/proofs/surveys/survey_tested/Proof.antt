@@ -1,25 +1,25 @@
--- `survey_tested` meets its contract. The loop's invariant: what was found and tested is what the records passed have. Assumes nothing.
+-- `survey_tested` meets its contract. The loop's invariant: what was found and tested is what the records read have. Assumes nothing.
 use native.Mathlib.Omega.{arith}
-use Prim.Native.Nat.{_≤_, _-_}
-use mathlib.Core.Logic.{⊎-elim}
+use Prim.Native.Nat.{_+_, _-_, _≤_}
+use mathlib.Core.Bool.{_&&_}
 use mathlib.Core.Path.{_≡_, sym, _∙_}
-use lib.ListN.{length, take, getD}
+use lib.ListN.{length, take}
 use borrow.Author.Needs.{needs}
 use Rattle.quantity.specs.Lists.{all}
 use Rattle.quantity.proofs.Lists.{length-of, all-none, all-more}
 use Rattle.state.specs.Valid.{versionRecordOk}
 use Rattle.state.specs.Version.{emptyVersion}
-use Rattle.checks.specs.Survey.{surveyStep, Surveyed}
-use Rattle.checks.proofs.Found.{found-none, found-more, other-point, records-taken}
+use Rattle.checks.specs.Survey.{reading, Surveyed}
+use Rattle.checks.proofs.Found.{found-none, found-more, found-other, records-taken}
 use Rattle.checks.proofs.surveys.survey_tested.Statement.{statement}
 use Rattle.checks.proofs.surveys.survey_tested.Tie as tie
 
 abbrev Inv-loop : tie.InvT-loop
-Inv-loop count rows point version versions fit₀ s₀ n i₀ fit s i =
-    (i ≤ n) × (n ≤ 512) × (length versions ≡ 512) × (take n versions ≡ take count versions) × (fit ≡ all (versionRecordOk rows) (take i versions)) × Surveyed (point .0) (version .0) (take i versions) s
+Inv-loop count rows point version versions fit₀ s₀ n read₀ fit s read =
+    (read ≤ n) × (n ≤ 512) × (length versions ≡ 512) × (take n versions ≡ take count versions) × (fit ≡ all (versionRecordOk rows) (take read versions)) × Surveyed (point .0) (version .0) (take read versions) (reading read s)
 
 abbrev μ-loop : tie.MeasureT-loop
-μ-loop count rows point version versions fit₀ s₀ n i₀ fit s i = n - i
+μ-loop count rows point version versions fit₀ s₀ n read₀ fit s read = n - read
 
 nothing-found-requires : tie.Need-nothing-found-requires Inv-loop μ-loop
 nothing-found-requires c κs = search needs
@@ -40,6 +40,9 @@ mul-v c = search needs
 array-copy-out-v : tie.Need-array-copy-out-v Inv-loop μ-loop
 array-copy-out-v c = search needs
 
+add-read : tie.Need-add-read Inv-loop μ-loop
+add-read c = search needs
+
 version-record-ok-requires : tie.Need-version-record-ok-requires Inv-loop μ-loop
 version-record-ok-requires c κs = search needs
 
@@ -49,32 +52,35 @@ is-at-requires c κs = search needs
 surveyed-requires : tie.Need-surveyed-requires Inv-loop μ-loop
 surveyed-requires c κs = search needs
 
-add-i : tie.Need-add-i Inv-loop μ-loop
-add-i c = search needs
-
 loop-less : tie.Need-loop-less Inv-loop μ-loop
 loop-less c = search needs
 
+-- the test with one record more
+fit-more : (c : tie.After-version-record-ok Inv-loop μ-loop) → (c .before .before .before .loop .fit && c .version-record-ok .result) ≡ all (versionRecordOk (c .before .before .before .before .before .before .args .rows)) (take (c .before .before .before .loop .read + 1) (c .before .before .before .before .before .before .args .t1))
+fit-more c =
+    let l = c .before .before .before .loop in
+    let a = c .before .before .before .before .before .before .args in
+    rw (c .version-record-ok .ensures, l .inv .4) (all-more (versionRecordOk (a .rows)) (a .t1) (l .read) emptyVersion (omega arith))
+
 loop-again : tie.Need-loop-again Inv-loop μ-loop
 loop-again c =
-    let s = c .before .before .before .before in
-    let l = s .before .loop in
-    let a = s .before .before .before .before .args in
-    let v = getD (a .t1) (l .i) emptyVersion in
-    let step : c .if1 .s ≡ surveyStep (a .point .0) (a .version .0) (l .s) (l .i) v =
-    ⊎-elim (λ w. w .2 ∙ w .1 .ensures) (λ w. w .1 ∙ other-point (a .point .0) (a .version .0) (l .s) (l .i) v (sym (c .before .is-at .ensures) ∙ w .0 .left)) (c .if1 .came) in (
-      omega arith,
-      l .inv .1,
-      l .inv .2,
-      l .inv .3,
-      rw (c .before .before .version-record-ok .ensures, l .inv .4) (all-more (versionRecordOk (a .rows)) (a .t1) (l .i) emptyVersion (omega arith)),
-      rw step (found-more (a .point .0) (a .version .0) (a .t1) (l .s) (l .i) (omega arith) (l .inv .5)),
-    )
+    let l = c .before .before .before .before .before .before .loop in
+    let a = c .before .before .before .before .before .before .before .before .before .args in
+    (omega arith, l .inv .1, l .inv .2, l .inv .3, fit-more (c .before .before .before), rw (c .surveyed .ensures) (found-more (a .point .0) (a .version .0) (a .t1) (l .s) (l .read) (omega arith) (l .inv .5)))
+
+loop-less-2 : tie.Need-loop-less-2 Inv-loop μ-loop
+loop-less-2 c = search needs
+
+loop-again-2 : tie.Need-loop-again-2 Inv-loop μ-loop
+loop-again-2 c =
+    let l = c .before .before .before .before .before .loop in
+    let a = c .before .before .before .before .before .before .before .before .args in
+    (omega arith, l .inv .1, l .inv .2, l .inv .3, fit-more (c .before .before), found-other (a .point .0) (a .version .0) (a .t1) (l .s) (l .read) (omega arith) (sym (c .before .is-at .ensures) ∙ c .if1 .left) (l .inv .5))
 
 returns : tie.Need-returns Inv-loop μ-loop
 returns c =
     let l = c .before .loop in
-    let e : l .i ≡ c .before .before .records-in .result = omega arith in
+    let e : l .read ≡ c .before .before .records-in .result = omega arith in
     record { fit = rw (← l .inv .3, ← e) (l .inv .4); survey = rw (← l .inv .3, ← e) (l .inv .5) }
 
 pub survey-tested-spec : {M : Type 1} → statement M
@@ -88,10 +94,12 @@ survey-tested-spec =
     loop-holds
     mul-v
     array-copy-out-v
+    add-read
     version-record-ok-requires
     is-at-requires
     surveyed-requires
-    add-i
     loop-less
     loop-again
+    loop-less-2
+    loop-again-2
     returns)

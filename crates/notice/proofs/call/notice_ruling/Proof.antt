@@ -4,7 +4,6 @@ use mathlib.Core.Bool.{not}
 use lib.Dec.{ltb}
 use Rattle.quantity.specs.Lists.{fold}
 use Rattle.state.specs.Point.{isActive}
-use Rattle.state.specs.Selection.{versionOf}
 use Rattle.model.specs.Causes.{firstOf, isAbsent, notCheck, logFull}
 use Rattle.model.specs.declared.Cause.the-variants.{NotOpen, WrongLength, BadField, PastDay, AfterCorrection, NotActive, NoVersion, NoticeBelow, NotCheckData, NoLogRow}
 use Rattle.checks.proofs.Deciding.{checked}
@@ -48,9 +47,6 @@ absent-requires c κs = search needs
 or-if-requires-7 : tie.Need-or-if-requires-7
 or-if-requires-7 c κs = search needs
 
-version-of-requires : tie.Need-version-of-requires
-version-of-requires c κs = search needs
-
 or-if-requires-8 : tie.Need-or-if-requires-8
 or-if-requires-8 c κs = search needs
 
@@ -73,14 +69,14 @@ returns c m =
     let a = s .args in
     let f = s .pre .1 .0 .survey refl in
     let here = s .pre .1 .0 .here in
-    let k0 = checked NotOpen (c .before .before .before .before .before .before .before .before .before .before .before .before .before .before .before .before .before .before .before .before .before .before .or-if .ensures) refl (ap not (c .before .before .before .before .before .before .before .before .before .before .before .before .before .before .before .before .before .before .before .before .before .before .before .is-open .ensures)) in
-    let k1 = checked WrongLength (c .before .before .before .before .before .before .before .before .before .before .before .before .before .before .before .before .before .before .before .before .or-if2 .ensures) k0 (c .before .before .before .before .before .before .before .before .before .before .before .before .before .before .before .before .before .before .before .before .before .other-lengths .ensures m) in
-    let k2 = checked BadField (c .before .before .before .before .before .before .before .before .before .before .before .before .before .before .before .before .before .before .or-if3 .ensures) k1 (ap not (c .before .before .before .before .before .before .before .before .before .before .before .before .before .before .before .before .before .before .before .notice-ok .ensures)) in
-    let k3 = checked PastDay (c .before .before .before .before .before .before .before .before .before .before .before .before .before .before .before .or-if4 .ensures) k2 refl in
-    let k4 = checked AfterCorrection (c .before .before .before .before .before .before .before .before .before .before .before .before .or-if5 .ensures) k3 refl in
-    let k5 = checked NotActive (c .before .before .before .before .before .before .before .before .before .before .or-if6 .ensures) k4 (ap not (c .before .before .before .before .before .before .before .before .before .before .before .is-active .ensures ∙ ap isActive here)) in
-    let k6 = checked NoVersion (c .before .before .before .before .before .before .before .before .or-if7 .ensures) k5 (c .before .before .before .before .before .before .before .before .before .absent .ensures ∙ ap isAbsent (f .held)) in
-    let k7 = checked NoticeBelow (c .before .before .before .before .or-if8 .ensures) k6 (ap (ltb (a .version .0)) (c .before .before .before .before .before .before .before .version-of .ensures ∙ ap versionOf (f .highest))) in
+    let k0 = checked NotOpen (c .before .before .before .before .before .before .before .before .before .before .before .before .before .before .before .before .before .before .before .before .before .or-if .ensures) refl (ap not (c .before .before .before .before .before .before .before .before .before .before .before .before .before .before .before .before .before .before .before .before .before .before .is-open .ensures)) in
+    let k1 = checked WrongLength (c .before .before .before .before .before .before .before .before .before .before .before .before .before .before .before .before .before .before .before .or-if2 .ensures) k0 (c .before .before .before .before .before .before .before .before .before .before .before .before .before .before .before .before .before .before .before .before .other-lengths .ensures m) in
+    let k2 = checked BadField (c .before .before .before .before .before .before .before .before .before .before .before .before .before .before .before .before .before .or-if3 .ensures) k1 (ap not (c .before .before .before .before .before .before .before .before .before .before .before .before .before .before .before .before .before .before .notice-ok .ensures)) in
+    let k3 = checked PastDay (c .before .before .before .before .before .before .before .before .before .before .before .before .before .before .or-if4 .ensures) k2 refl in
+    let k4 = checked AfterCorrection (c .before .before .before .before .before .before .before .before .before .before .before .or-if5 .ensures) k3 refl in
+    let k5 = checked NotActive (c .before .before .before .before .before .before .before .before .before .or-if6 .ensures) k4 (ap not (c .before .before .before .before .before .before .before .before .before .before .is-active .ensures ∙ ap isActive here)) in
+    let k6 = checked NoVersion (c .before .before .before .before .before .before .before .or-if7 .ensures) k5 (c .before .before .before .before .before .before .before .before .absent .ensures ∙ ap isAbsent (f .held)) in
+    let k7 = checked NoticeBelow (c .before .before .before .before .or-if8 .ensures) k6 (ap (ltb (a .version .0)) (f .highest)) in
     let k8 = checked NotCheckData (c .before .before .or-if9 .ensures) k7 (c .before .before .before .not-check .ensures ∙ ap notCheck (f .held)) in
     checked NoLogRow (c .or-if10 .ensures) k8 (c .before .log-full .ensures ∙ ap (logFull (a .d .frame .used) (a .d .frame .opening .log)) (s .pre .1 .1))
 
@@ -100,7 +96,6 @@ notice-ruling-spec =
     or-if-requires-6
     absent-requires
     or-if-requires-7
-    version-of-requires
     or-if-requires-8
     not-check-requires
     or-if-requires-9

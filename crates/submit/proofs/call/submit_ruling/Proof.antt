@@ -7,7 +7,6 @@ use Rattle.quantity.specs.Lists.{fold}
 use Rattle.state.specs.Change.{submitted}
 use Rattle.state.specs.Desk.{versionsIn}
 use Rattle.state.specs.Point.{isActive, sinceOf}
-use Rattle.state.specs.Selection.{versionOf}
 use Rattle.state.specs.Version.{newVersion}
 use Rattle.state.specs.declared.PointState.{PointState}
 use Rattle.model.specs.Causes.{firstOf, isAbsent, logFull}
@@ -60,9 +59,6 @@ absent-requires c κs = search needs
 or-if-requires-8 : tie.Need-or-if-requires-8
 or-if-requires-8 c κs = search needs
 
-version-of-requires : tie.Need-version-of-requires
-version-of-requires c κs = search needs
-
 or-if-requires-9 : tie.Need-or-if-requires-9
 or-if-requires-9 c κs = search needs
 
@@ -87,15 +83,15 @@ returns c m =
     let f = s .pre .1 .0 .survey refl in
     let n = s .pre .1 .1 .0 in
     let here = s .pre .1 .0 .here in
-    let k0 = checked NotOpen (c .before .before .before .before .before .before .before .before .before .before .before .before .before .before .before .before .before .before .before .before .before .before .before .before .or-if .ensures) refl (ap not (c .before .before .before .before .before .before .before .before .before .before .before .before .before .before .before .before .before .before .before .before .before .before .before .before .before .is-open .ensures)) in
-    let k1 = checked WrongLength (c .before .before .before .before .before .before .before .before .before .before .before .before .before .before .before .before .before .before .before .before .before .before .or-if2 .ensures) k0 (c .before .before .before .before .before .before .before .before .before .before .before .before .before .before .before .before .before .before .before .before .before .before .before .other-lengths .ensures m) in
-    let k2 = checked BadField (c .before .before .before .before .before .before .before .before .before .before .before .before .before .before .before .before .before .before .before .before .or-if3 .ensures) k1 (ap not (c .before .before .before .before .before .before .before .before .before .before .before .before .before .before .before .before .before .before .before .before .before .submit-ok .ensures)) in
-    let k3 = checked PastDay (c .before .before .before .before .before .before .before .before .before .before .before .before .before .before .before .before .before .or-if4 .ensures) k2 refl in
-    let k4 = checked AfterCorrection (c .before .before .before .before .before .before .before .before .before .before .before .before .before .before .or-if5 .ensures) k3 refl in
-    let k5 = checked NotActive (c .before .before .before .before .before .before .before .before .before .before .before .before .or-if6 .ensures) k4 (ap not (c .before .before .before .before .before .before .before .before .before .before .before .before .before .is-active .ensures ∙ ap isActive here)) in
-    let k6 = checked TooEarly (c .before .before .before .before .before .before .before .before .before .before .or-if7 .ensures) k5 (c .before .before .before .before .before .before .before .before .before .before .before .too-early .ensures ∙ ap (λ (p : PointState). ltb (a .day .0) (sinceOf p + 2)) here) in
-    let k7 = checked VersionPresent (c .before .before .before .before .before .before .before .before .or-if8 .ensures) k6 (ap not (c .before .before .before .before .before .before .before .before .before .absent .ensures ∙ ap isAbsent (f .held))) in
-    let k8 = checked VersionBelow (c .before .before .before .before .or-if9 .ensures) k7 (ap (ltb (a .version .0)) (c .before .before .before .before .before .before .before .version-of .ensures ∙ ap versionOf (f .highest))) in
+    let k0 = checked NotOpen (c .before .before .before .before .before .before .before .before .before .before .before .before .before .before .before .before .before .before .before .before .before .before .before .or-if .ensures) refl (ap not (c .before .before .before .before .before .before .before .before .before .before .before .before .before .before .before .before .before .before .before .before .before .before .before .before .is-open .ensures)) in
+    let k1 = checked WrongLength (c .before .before .before .before .before .before .before .before .before .before .before .before .before .before .before .before .before .before .before .before .before .or-if2 .ensures) k0 (c .before .before .before .before .before .before .before .before .before .before .before .before .before .before .before .before .before .before .before .before .before .before .other-lengths .ensures m) in
+    let k2 = checked BadField (c .before .before .before .before .before .before .before .before .before .before .before .before .before .before .before .before .before .before .before .or-if3 .ensures) k1 (ap not (c .before .before .before .before .before .before .before .before .before .before .before .before .before .before .before .before .before .before .before .before .submit-ok .ensures)) in
+    let k3 = checked PastDay (c .before .before .before .before .before .before .before .before .before .before .before .before .before .before .before .before .or-if4 .ensures) k2 refl in
+    let k4 = checked AfterCorrection (c .before .before .before .before .before .before .before .before .before .before .before .before .before .or-if5 .ensures) k3 refl in
+    let k5 = checked NotActive (c .before .before .before .before .before .before .before .before .before .before .before .or-if6 .ensures) k4 (ap not (c .before .before .before .before .before .before .before .before .before .before .before .before .is-active .ensures ∙ ap isActive here)) in
+    let k6 = checked TooEarly (c .before .before .before .before .before .before .before .before .before .or-if7 .ensures) k5 (c .before .before .before .before .before .before .before .before .before .before .too-early .ensures ∙ ap (λ (p : PointState). ltb (a .day .0) (sinceOf p + 2)) here) in
+    let k7 = checked VersionPresent (c .before .before .before .before .before .before .before .or-if8 .ensures) k6 (ap not (c .before .before .before .before .before .before .before .before .absent .ensures ∙ ap isAbsent (f .held))) in
+    let k8 = checked VersionBelow (c .before .before .before .before .or-if9 .ensures) k7 (ap (ltb (a .version .0)) (f .highest)) in
     let k9 = checked NoRow (c .before .before .or-if10 .ensures) k8 (c .before .before .before .no-row .ensures ∙ ap (λ (m : ℕ). leb 512 m || ltb (d .frame .opening .values) ((m + 1) * d .frame .opening .quarters)) (sym n)) in
     checked NoLogRow (c .or-if11 .ensures) k9 (c .before .log-full .ensures ∙ ap (logFull (d .frame .used) (d .frame .opening .log)) (s .pre .1 .1 .1 ∙ ap (λ (m : ℕ). due (versionsIn d) (submitted (newVersion (d .frame .opening .first .0) m (a .point .0) (a .version .0) (a .day .0)) (versionsIn d)) (a .point .0) (a .day .0)) (sym n)))
 
@@ -117,7 +113,6 @@ submit-ruling-spec =
     or-if-requires-7
     absent-requires
     or-if-requires-8
-    version-of-requires
     or-if-requires-9
     no-row-requires
     or-if-requires-10

@@ -1,6 +1,6 @@
 -- `higher` meets its contract, by the branch taken. Assumes nothing.
-use Rattle.state.proofs.settling.higher.Statement.{statement}
-use Rattle.state.proofs.settling.higher.Tie as tie
+use Rattle.state.proofs.selections.higher.Statement.{statement}
+use Rattle.state.proofs.selections.higher.Tie as tie
 
 returns : tie.Need-returns
 returns c = rw (c .if1 .taken)
