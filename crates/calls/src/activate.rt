@@ -18,6 +18,7 @@ use quantity::PointNo;
 use quantity::limits::day_ok;
 use quantity::limits::point_ok;
 use state::Desk;
+use state::Frame;
 use state::changes::active_record;
 use state::changes::put_point;
 ghost use mathlib.Core.Path.{_≡_};
@@ -25,11 +26,11 @@ ghost use Rattle.state.specs.Effect.{changedBy, Fits};
 ghost use Rattle.model.specs.Call.{Lengths, activates, telling};
 ghost use Rattle.model.specs.Causes.{askingSeries};
 ghost use Rattle.model.specs.Step.{refusalBy};
-ghost use Rattle.checks.specs.Look.{Looked};
+ghost use Rattle.checks.specs.Look.{Seen, OfEach};
 ghost use Rattle.checks.specs.Stepped.{Answered};
 
 fn activate_ruling(
-    d: Desk,
+    frame: Frame,
     l: Look,
     point: PointNo,
     kind: u64,
@@ -37,10 +38,8 @@ fn activate_ruling(
     partner: u64,
     day: Day,
 ) -> Ruling
-    requires { ⌜ Looked d (askingSeries (point .0) kind area partner) l ⌝ }
-    ensures { λ r. ⌜ ((n : Lengths) → r ≡ refusalBy d (telling n (activates (point .0) kind area partner (day .0)))) ⌝ }
+    ensures { λ r. ⌜ OfEach frame (askingSeries (point .0) kind area partner) l (λ d. (n : Lengths) → r ≡ refusalBy d (telling n (activates (point .0) kind area partner (day .0)))) ⌝ }
 {
-    let frame = d.frame;
     let opening = frame.opening;
     let here = l.here;
     let fits = point_ok(point) & (day_ok(day) & series_ok(kind, area, partner));
@@ -52,9 +51,9 @@ fn activate_ruling(
     or_if(v4, l.taken, Cause::SameSeries)
 }
 
-// What is decided, by one look at the desk.
+// What is decided, by the desk's frame and one look at it.
 pub fn decide_activate(
-    d: Desk,
+    frame: Frame,
     l: Look,
     point: PointNo,
     kind: u64,
@@ -62,11 +61,10 @@ pub fn decide_activate(
     partner: u64,
     day: Day,
 ) -> Decided
-    requires { ⌜ Looked d (askingSeries (point .0) kind area partner) l ⌝ }
-    ensures { λ r. ⌜ Fits d (r .effect) × Answered d (activates (point .0) kind area partner (day .0)) (r .answer) (changedBy d (r .effect)) ⌝ }
+    requires { ⌜ Seen frame (askingSeries (point .0) kind area partner) l ⌝ }
+    ensures { λ r. ⌜ OfEach frame (askingSeries (point .0) kind area partner) l (λ d. Fits d (r .effect) × Answered d (activates (point .0) kind area partner (day .0)) (r .answer) (changedBy d (r .effect))) ⌝ }
 {
-    let frame = d.frame;
-    let v = activate_ruling(d, l, point, kind, area, partner, day);
+    let v = activate_ruling(frame, l, point, kind, area, partner, day);
     match v {
         Ruling::Refuse(c) => refuse(frame, c),
         Ruling::Fine => {
@@ -80,6 +78,7 @@ pub fn activate(d: Desk, point: PointNo, kind: u64, area: u64, partner: u64, day
     ensures { λ r. ⌜ Answered d (activates (point .0) kind area partner (day .0)) (r .answer) (r .desk) ⌝ }
 {
     let l = look(d, asking_series(point, kind, area, partner));
-    let r = decide_activate(d, l, point, kind, area, partner, day);
+    let frame = d.frame;
+    let r = decide_activate(frame, l, point, kind, area, partner, day);
     outcome(d, r)
 }

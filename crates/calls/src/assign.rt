@@ -1,12 +1,14 @@
 // Assign: a delta moves to another group, in both runs.
 use amend::delta::move_delta;
 use checks::Decided;
+use checks::Look;
 use checks::Outcome;
 use checks::decisions::accept;
 use checks::decisions::at_work;
 use checks::decisions::outcome;
 use checks::decisions::refuse;
-use checks::looks::valid;
+use checks::looks::asking_nothing;
+use checks::looks::look;
 use checks::rules::or_if;
 use model::Cause;
 use model::Ruling;
@@ -16,26 +18,29 @@ use quantity::limits::delta_ok;
 use quantity::limits::group_ok;
 use state::Desk;
 use state::Effect;
+use state::Frame;
 use state::changes::put_group;
 ghost use mathlib.Core.Path.{_≡_};
 ghost use mathlib.Core.Bool.{true};
+ghost use Prim.Native.Nat.{_*_, _≤_};
 ghost use lib.ListN.{length};
-ghost use Rattle.quantity.specs.Limits.{deltaOk, groupOk};
+ghost use Rattle.quantity.specs.Limits.{mostQuarters, bookRows, deltaOk, groupOk};
+ghost use Rattle.quantity.specs.Lists.{all};
+ghost use Rattle.state.specs.Desk.{withFrame};
 ghost use Rattle.state.specs.Effect.{changedBy, Fits};
-ghost use Rattle.state.specs.Valid.{Sound, validDesk};
 ghost use Rattle.model.specs.Call.{Stores, Lengths, assigns, telling};
+ghost use Rattle.model.specs.Causes.{askingNothing};
 ghost use Rattle.model.specs.Step.{refusalBy, granting, withBook};
 ghost use Rattle.model.specs.declared.Answer.the-variants.{Accepted};
+ghost use Rattle.checks.specs.Look.{Seen, OfEach};
 ghost use Rattle.checks.specs.Stepped.{IsBookStep, BookStepped};
 ghost use Rattle.checks.specs.Lent.{withBookLength};
 
-pub fn assign_ruling(d: Desk, fit: bool, size: u64, area: u64, group: u64, day: Day) -> Ruling
-    requires { ⌜ fit ≡ validDesk d ⌝ }
-    ensures { λ r. ⌜ ((n : Lengths) → r ≡ refusalBy d (telling (withBookLength n size) (assigns area group (day .0)))) ⌝ }
+pub fn assign_ruling(frame: Frame, l: Look, size: u64, area: u64, group: u64, day: Day) -> Ruling
+    ensures { λ r. ⌜ OfEach frame askingNothing l (λ d. (n : Lengths) → r ≡ refusalBy d (telling (withBookLength n size) (assigns area group (day .0)))) ⌝ }
 {
-    let frame = d.frame;
     let opening = frame.opening;
-    let v0 = at_work(fit, opening);
+    let v0 = at_work(l.valid, opening);
     let v1 = or_if(v0, size != opening.book, Cause::WrongLength);
     let fits = delta_ok(area) & (group_ok(group) & day_ok(day));
     let v2 = or_if(v1, !fits, Cause::BadField);
@@ -44,13 +49,12 @@ pub fn assign_ruling(d: Desk, fit: bool, size: u64, area: u64, group: u64, day: 
 }
 
 // The book and the desk after an assignment that is not refused.
-fn assigned(d: Desk, area: u64, group: u64, day: Day, book: &mut [u64]) -> Effect
-    requires { ⌜ Sound d ⌝ }
+fn assigned(frame: Frame, area: u64, group: u64, day: Day, book: &mut [u64]) -> Effect
+    requires { ⌜ (frame .opening .quarters ≤ mostQuarters) × (all groupOk (frame .groups) ≡ true) ⌝ }
     requires { ⌜ (deltaOk area ≡ true) × (groupOk group ≡ true) ⌝ }
-    requires { ⌜ length (now book) ≡ d .frame .opening .book ⌝ }
-    ensures { λ r. ⌜ Fits d r × ((s : Stores) → IsBookStep (granting d (withBook s (now (book .entry))) (assigns area group (day .0))) Accepted (changedBy d r) (now (book .exit))) ⌝ }
+    requires { ⌜ length (now book) ≡ bookRows * frame .opening .quarters ⌝ }
+    ensures { λ r. ⌜ ((e : Desk) → let d = withFrame e frame in Fits d r × ((s : Stores) → IsBookStep (granting d (withBook s (now (book .entry))) (assigns area group (day .0))) Accepted (changedBy d r) (now (book .exit)))) ⌝ }
 {
-    let frame = d.frame;
     let opening = frame.opening;
     let groups = frame.groups;
     let i = area as usize;
@@ -59,29 +63,30 @@ fn assigned(d: Desk, area: u64, group: u64, day: Day, book: &mut [u64]) -> Effec
     put_group(frame, area, group, day)
 }
 
-// What is decided, where it is known whether the desk is within its limits.
+// What is decided, by the desk's frame and one look at it.
 pub fn decide_assign(
-    d: Desk,
-    fit: bool,
+    frame: Frame,
+    l: Look,
     area: u64,
     group: u64,
     day: Day,
     book: &mut [u64],
 ) -> Decided
-    requires { ⌜ fit ≡ validDesk d ⌝ }
-    ensures { λ r. ⌜ Fits d (r .effect) × BookStepped d (assigns area group (day .0)) (now (book .entry)) (r .answer) (changedBy d (r .effect)) (now (book .exit)) ⌝ }
+    requires { ⌜ Seen frame askingNothing l ⌝ }
+    ensures { λ r. ⌜ OfEach frame askingNothing l (λ d. Fits d (r .effect) × BookStepped d (assigns area group (day .0)) (now (book .entry)) (r .answer) (changedBy d (r .effect)) (now (book .exit))) ⌝ }
 {
-    let frame = d.frame;
-    let v = assign_ruling(d, fit, book.len() as u64, area, group, day);
+    let v = assign_ruling(frame, l, book.len() as u64, area, group, day);
     match v {
         Ruling::Refuse(c) => refuse(frame, c),
-        Ruling::Fine => accept(assigned(d, area, group, day, book)),
+        Ruling::Fine => accept(assigned(frame, area, group, day, book)),
     }
 }
 
 pub fn assign(d: Desk, area: u64, group: u64, day: Day, book: &mut [u64]) -> Outcome
     ensures { λ r. ⌜ BookStepped d (assigns area group (day .0)) (now (book .entry)) (r .answer) (r .desk) (now (book .exit)) ⌝ }
 {
-    let r = decide_assign(d, valid(d), area, group, day, book);
+    let l = look(d, asking_nothing());
+    let frame = d.frame;
+    let r = decide_assign(frame, l, area, group, day, book);
     outcome(d, r)
 }

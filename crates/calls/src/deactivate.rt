@@ -18,6 +18,7 @@ use quantity::Version;
 use quantity::limits::day_ok;
 use quantity::limits::point_ok;
 use state::Desk;
+use state::Frame;
 use state::PointRecord;
 use state::PointState;
 use state::changes::put_point;
@@ -26,14 +27,12 @@ ghost use Rattle.state.specs.Effect.{changedBy, Fits};
 ghost use Rattle.model.specs.Call.{Lengths, deactivates, telling};
 ghost use Rattle.model.specs.Causes.{askingVersions};
 ghost use Rattle.model.specs.Step.{refusalBy};
-ghost use Rattle.checks.specs.Look.{Looked};
+ghost use Rattle.checks.specs.Look.{Seen, OfEach};
 ghost use Rattle.checks.specs.Stepped.{Answered};
 
-fn deactivate_ruling(d: Desk, l: Look, point: PointNo, day: Day) -> Ruling
-    requires { ⌜ Looked d (askingVersions (point .0) 0) l ⌝ }
-    ensures { λ r. ⌜ ((n : Lengths) → r ≡ refusalBy d (telling n (deactivates (point .0) (day .0)))) ⌝ }
+fn deactivate_ruling(frame: Frame, l: Look, point: PointNo, day: Day) -> Ruling
+    ensures { λ r. ⌜ OfEach frame (askingVersions (point .0) 0) l (λ d. (n : Lengths) → r ≡ refusalBy d (telling n (deactivates (point .0) (day .0)))) ⌝ }
 {
-    let frame = d.frame;
     let opening = frame.opening;
     let here = l.here;
     let survey = l.survey;
@@ -46,13 +45,12 @@ fn deactivate_ruling(d: Desk, l: Look, point: PointNo, day: Day) -> Ruling
     or_if(v4, highest.0 != 0, Cause::HasVersion)
 }
 
-// What is decided, by one look at the desk.
-pub fn decide_deactivate(d: Desk, l: Look, point: PointNo, day: Day) -> Decided
-    requires { ⌜ Looked d (askingVersions (point .0) 0) l ⌝ }
-    ensures { λ r. ⌜ Fits d (r .effect) × Answered d (deactivates (point .0) (day .0)) (r .answer) (changedBy d (r .effect)) ⌝ }
+// What is decided, by the desk's frame and one look at it.
+pub fn decide_deactivate(frame: Frame, l: Look, point: PointNo, day: Day) -> Decided
+    requires { ⌜ Seen frame (askingVersions (point .0) 0) l ⌝ }
+    ensures { λ r. ⌜ OfEach frame (askingVersions (point .0) 0) l (λ d. Fits d (r .effect) × Answered d (deactivates (point .0) (day .0)) (r .answer) (changedBy d (r .effect))) ⌝ }
 {
-    let frame = d.frame;
-    let v = deactivate_ruling(d, l, point, day);
+    let v = deactivate_ruling(frame, l, point, day);
     match v {
         Ruling::Refuse(c) => refuse(frame, c),
         Ruling::Fine => {
@@ -68,6 +66,7 @@ pub fn deactivate(d: Desk, point: PointNo, day: Day) -> Outcome
     ensures { λ r. ⌜ Answered d (deactivates (point .0) (day .0)) (r .answer) (r .desk) ⌝ }
 {
     let l = look(d, asking_versions(point, Version(0)));
-    let r = decide_deactivate(d, l, point, day);
+    let frame = d.frame;
+    let r = decide_deactivate(frame, l, point, day);
     outcome(d, r)
 }

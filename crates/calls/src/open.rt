@@ -13,10 +13,12 @@ use model::Ruling;
 use quantity::Day;
 use quantity::limits::DELTAS;
 use state::Desk;
+use state::Frame;
 use state::Opening;
 use state::changes::open_desk;
 ghost use mathlib.Core.Path.{_≡_};
 ghost use lib.ListN.{length, replicate};
+ghost use Rattle.state.specs.Desk.{withFrame};
 ghost use Rattle.state.specs.Effect.{changedBy, Fits};
 ghost use Rattle.model.specs.Call.{opens, telling};
 ghost use Rattle.model.specs.Step.{refusalBy};
@@ -24,10 +26,9 @@ ghost use Rattle.checks.specs.Stepped.{WholeStepped, storesOf};
 ghost use Rattle.checks.specs.Lent.{sizes};
 
 // It checks 6, then 4, and never cause 1.
-pub fn open_ruling(d: Desk, o: Opening, groups: [u64; DELTAS as usize]) -> Ruling
-    ensures { λ r. ⌜ r ≡ refusalBy d (telling (sizes (o .values) (o .book) (o .log) (o .schedules)) (opens (o .quarters) (o .first .0) (o .clearing .0) (o .correction .0) groups)) ⌝ }
+pub fn open_ruling(frame: Frame, o: Opening, groups: [u64; DELTAS as usize]) -> Ruling
+    ensures { λ r. ⌜ ((d : Desk) → r ≡ refusalBy (withFrame d frame) (telling (sizes (o .values) (o .book) (o .log) (o .schedules)) (opens (o .quarters) (o .first .0) (o .clearing .0) (o .correction .0) groups))) ⌝ }
 {
-    let frame = d.frame;
     let opening = frame.opening;
     let v = or_if(Ruling::Fine, is_open(opening), Cause::OpenAgain);
     or_if(v, !(opening_ok(o) & groups_ok(groups)), Cause::BadOpening)
@@ -42,9 +43,9 @@ pub fn clear(store: &mut [u64])
     }
 }
 
-// What is decided; book and schedules are cleared where it is accepted.
+// What is decided, by the desk's frame; book and schedules are cleared where it is accepted.
 pub fn decide_open(
-    d: Desk,
+    frame: Frame,
     quarters: u64,
     first: Day,
     clearing: Day,
@@ -55,7 +56,7 @@ pub fn decide_open(
     log: &[u64],
     schedules: &mut [u64],
 ) -> Decided
-    ensures { λ r. ⌜ Fits d (r .effect) × WholeStepped d (opens quarters (first .0) (clearing .0) (correction .0) groups) (storesOf (now (values .entry)) (now (book .entry)) (now (log .entry)) (now (schedules .entry))) (r .answer) (changedBy d (r .effect)) (storesOf (now (values .entry)) (now (book .exit)) (now (log .entry)) (now (schedules .exit))) ⌝ }
+    ensures { λ r. ⌜ ((e : Desk) → let d = withFrame e frame in Fits d (r .effect) × WholeStepped d (opens quarters (first .0) (clearing .0) (correction .0) groups) (storesOf (now (values .entry)) (now (book .entry)) (now (log .entry)) (now (schedules .entry))) (r .answer) (changedBy d (r .effect)) (storesOf (now (values .entry)) (now (book .exit)) (now (log .entry)) (now (schedules .exit)))) ⌝ }
 {
     let o = Opening {
         quarters,
@@ -67,8 +68,7 @@ pub fn decide_open(
         log: log.len() as u64,
         schedules: schedules.len() as u64,
     };
-    let frame = d.frame;
-    let v = open_ruling(d, o, groups);
+    let v = open_ruling(frame, o, groups);
     match v {
         Ruling::Refuse(c) => refuse(frame, c),
         Ruling::Fine => {
@@ -93,8 +93,9 @@ pub fn open(
 ) -> Outcome
     ensures { λ r. ⌜ WholeStepped d (opens quarters (first .0) (clearing .0) (correction .0) groups) (storesOf (now (values .entry)) (now (book .entry)) (now (log .entry)) (now (schedules .entry))) (r .answer) (r .desk) (storesOf (now (values .entry)) (now (book .exit)) (now (log .entry)) (now (schedules .exit))) ⌝ }
 {
+    let frame = d.frame;
     let r = decide_open(
-        d,
+        frame,
         quarters,
         first,
         clearing,

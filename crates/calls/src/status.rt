@@ -15,19 +15,18 @@ use quantity::Version;
 use quantity::limits::point_ok;
 use quantity::limits::version_ok;
 use state::Desk;
+use state::Frame;
 use state::Held;
 ghost use mathlib.Core.Path.{_≡_};
 ghost use Rattle.model.specs.Call.{Lengths, asks, telling};
 ghost use Rattle.model.specs.Causes.{askingVersions};
 ghost use Rattle.model.specs.Step.{statusAnswer, refusalBy};
-ghost use Rattle.checks.specs.Look.{Looked};
+ghost use Rattle.checks.specs.Look.{OfEach};
 ghost use Rattle.checks.specs.Stepped.{Answered};
 
-fn status_ruling(d: Desk, l: Look, point: PointNo, version: Version) -> Ruling
-    requires { ⌜ Looked d (askingVersions (point .0) (version .0)) l ⌝ }
-    ensures { λ r. ⌜ ((n : Lengths) → r ≡ refusalBy d (telling n (asks (point .0) (version .0)))) ⌝ }
+fn status_ruling(frame: Frame, l: Look, point: PointNo, version: Version) -> Ruling
+    ensures { λ r. ⌜ OfEach frame (askingVersions (point .0) (version .0)) l (λ d. (n : Lengths) → r ≡ refusalBy d (telling n (asks (point .0) (version .0)))) ⌝ }
 {
-    let frame = d.frame;
     let opening = frame.opening;
     let here = l.here;
     let survey = l.survey;
@@ -60,7 +59,8 @@ pub fn status(d: Desk, point: PointNo, version: Version) -> Outcome
     let l = look(d, asking_versions(point, version));
     let survey = l.survey;
     let held = survey.held;
-    let v = status_ruling(d, l, point, version);
+    let frame = d.frame;
+    let v = status_ruling(frame, l, point, version);
     match v {
         Ruling::Refuse(c) => Outcome {
             answer: Answer::Refused(c),

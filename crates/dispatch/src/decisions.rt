@@ -14,18 +14,19 @@ use message::DeskCall;
 use notice::call::decide_notice;
 use quantity::limits::DELTAS;
 use state::Desk;
+use state::Frame;
 use submit::call::decide_submit;
 ghost use mathlib.Core.List.{map};
 ghost use Rattle.quantity.specs.Word.{signed};
 ghost use Rattle.state.specs.Effect.{changedBy, Fits};
 ghost use Rattle.model.specs.Causes.{terms};
-ghost use Rattle.checks.specs.Look.{Looked};
+ghost use Rattle.checks.specs.Look.{Seen, OfEach};
 ghost use Rattle.checks.specs.Stepped.{WholeStepped, storesOf};
 ghost use Rattle.dispatch.specs.Asked.{asked};
 
-// By one look at the desk. The groups are an opening's, the series a submission's energies, as many as it has.
+// By the desk's frame and one look at it. The groups are an opening's, the series a submission's energies, as many as it has.
 pub fn decide(
-    d: Desk,
+    f: Frame,
     l: Look,
     call: DeskCall,
     groups: [u64; DELTAS as usize],
@@ -35,8 +36,8 @@ pub fn decide(
     log: &mut [u64],
     schedules: &mut [u64],
 ) -> Decided
-    requires { ⌜ Looked d (terms (asked call groups (map signed (now series))) .asks) l ⌝ }
-    ensures { λ r. ⌜ Fits d (r .effect) × WholeStepped d (asked call groups (map signed (now (series .entry)))) (storesOf (now (values .entry)) (now (book .entry)) (now (log .entry)) (now (schedules .entry))) (r .answer) (changedBy d (r .effect)) (storesOf (now (values .exit)) (now (book .exit)) (now (log .exit)) (now (schedules .exit))) ⌝ }
+    requires { ⌜ Seen f (terms (asked call groups (map signed (now series))) .asks) l ⌝ }
+    ensures { λ r. ⌜ OfEach f (terms (asked call groups (map signed (now (series .entry)))) .asks) l (λ d. Fits d (r .effect) × WholeStepped d (asked call groups (map signed (now (series .entry)))) (storesOf (now (values .entry)) (now (book .entry)) (now (log .entry)) (now (schedules .entry))) (r .answer) (changedBy d (r .effect)) (storesOf (now (values .exit)) (now (book .exit)) (now (log .exit)) (now (schedules .exit)))) ⌝ }
 {
     match call {
         DeskCall::Open {
@@ -45,7 +46,7 @@ pub fn decide(
             clearing,
             correction,
         } => decide_open(
-            d,
+            f,
             quarters,
             first,
             clearing,
@@ -62,21 +63,21 @@ pub fn decide(
             area,
             partner,
             day,
-        } => decide_activate(d, l, point, kind, area, partner, day),
-        DeskCall::Deactivate { point, day } => decide_deactivate(d, l, point, day),
+        } => decide_activate(f, l, point, kind, area, partner, day),
+        DeskCall::Deactivate { point, day } => decide_deactivate(f, l, point, day),
         DeskCall::Submit {
             point,
             version,
             day,
-        } => decide_submit(d, l, point, version, day, series, values, book, log),
+        } => decide_submit(f, l, point, version, day, series, values, book, log),
         DeskCall::Notice {
             point,
             version,
             verdict,
             day,
-        } => decide_notice(d, l, point, version, verdict, day, values, book, log),
-        DeskCall::Assign { area, group, day } => decide_assign(d, l.valid, area, group, day, book),
-        DeskCall::Settle { run, day } => decide_settle(d, l.valid, run, day),
+        } => decide_notice(f, l, point, version, verdict, day, values, book, log),
+        DeskCall::Assign { area, group, day } => decide_assign(f, l, area, group, day, book),
+        DeskCall::Settle { run, day } => decide_settle(f, l, run, day),
     }
 }
 
@@ -94,6 +95,7 @@ pub fn answer(
     ensures { λ r. ⌜ WholeStepped d (asked call groups (map signed (now (series .entry)))) (storesOf (now (values .entry)) (now (book .entry)) (now (log .entry)) (now (schedules .entry))) (r .answer) (r .desk) (storesOf (now (values .exit)) (now (book .exit)) (now (log .exit)) (now (schedules .exit))) ⌝ }
 {
     let l = look(d, asks_of(call));
-    let r = decide(d, l, call, groups, series, values, book, log, schedules);
+    let frame = d.frame;
+    let r = decide(frame, l, call, groups, series, values, book, log, schedules);
     outcome(d, r)
 }

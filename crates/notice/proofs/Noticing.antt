@@ -27,7 +27,7 @@ use Rattle.state.specs.declared.VersionRecord.{VersionRecord}
 use Rattle.state.proofs.Bounds.{state-in, rows-fit}
 use Rattle.state.proofs.Kept.{is-check, notice-own, notice-negative}
 use Rattle.state.proofs.Picks.{held-right}
-use Rattle.state.specs.Effect.{changedBy}
+use Rattle.state.specs.Effect.{changedBy, Fits}
 use Rattle.state.specs.declared.Effect.{Effect}
 use Rattle.model.specs.Call.{Stores, notices}
 use Rattle.model.specs.Causes.{rules, firstOf, notCheck, logFull}
@@ -49,7 +49,7 @@ use Rattle.checks.specs.Survey.{Surveyed}
 use Rattle.checks.specs.declared.Survey.{Survey}
 use Rattle.checks.proofs.Deciding.{noLengths}
 use Rattle.checks.proofs.Lengths.{lengths}
-use Rattle.notice.specs.Notice.{noticedIn, ownBy, turnBy, noticedRecord, CheckAt, NoticeFits, NoticeEffect}
+use Rattle.notice.specs.Notice.{noticedIn, ownBy, turnBy, noticedRecord, CheckFound, StandsIn, NoticeFits, NoticeEffect}
 
 -- a notice at a point makes of its selection in a run what it makes of the selection found
 own-noticed : (run c p x y day : ℕ) (vs : List VersionRecord) → own run p (noticed c p x y day vs) ≡ ownBy run y (confirmedStatus c day) (held p x vs) (own run p vs)
@@ -87,17 +87,24 @@ noticed-table c y day i v vs e s = let check : isCheck (v .status) ≡ true = ap
     go true = refl
     go false = ap (set vs i) (sym e) ∙ set-getD vs i emptyVersion
 
+-- a version found among the versions held stands in the table
+stands : (d : Desk) (p x : ℕ) (h : Held) → HeldIn p x (versionsIn d) (length (versionsIn d)) h → d .frame .count ≤ versions → length (d .versions) ≡ versions → StandsIn (d .versions) h
+stands d p x Absent k few long = tt
+stands d p x (Has i v) k few long =
+    let n = length-take-le (d .frame .count) (d .versions) (omega arith) in
+    sym (getD-take (d .frame .count) (d .versions) i emptyVersion (omega (arith, k .within))) ∙ k .here
+
 -- past cause 25 the version found is check data
-check-found : (d : Desk) (p x : ℕ) (h : Held) → HeldIn p x (versionsIn d) (length (versionsIn d)) h → d .frame .count ≤ versions → length (d .versions) ≡ versions → notCheck h ≡ false → CheckAt (d .versions) h
+check-found : (d : Desk) (p x : ℕ) (h : Held) → HeldIn p x (versionsIn d) (length (versionsIn d)) h → d .frame .count ≤ versions → length (d .versions) ≡ versions → notCheck h ≡ false → CheckFound h
 unfolding notCheck
 check-found d p x Absent k few long e = absurd (true≢false e)
 check-found d p x (Has i v) k few long e =
     let n = length-take-le (d .frame .count) (d .versions) (omega arith) in
-    (omega (arith, k .within), sym (getD-take (d .frame .count) (d .versions) i emptyVersion (omega (arith, k .within))) ∙ k .here, is-check (v .status) (not-false (isCheck (v .status)) e))
+    (omega (arith, k .within), is-check (v .status) (not-false (isCheck (v .status)) e))
 
 module _ (d : Desk) (p x y day : ℕ) (values book log : List ℕ) (h : Held) (t : Turn) (o : Due) (s : Sound d) (table : length (d .versions) ≡ versions)
     (H : h ≡ held p x (versionsIn d)) (T : t ≡ turnOf (versionsIn d) (noticedIn d p x y day) p) (D : o ≡ due (versionsIn d) (noticedIn d p x y day) p day) where
-  pub notice-allowed : {here : PointState} → here ≡ pointAt (d .points) p → firstOf (rules (viewOf d) (lengthsIn noLengths (sizesOf values book log)) (notices p x y day)) ≡ Fine → NoticeFits d here h values book log t o
+  pub notice-allowed : {here : PointState} → here ≡ pointAt (d .points) p → firstOf (rules (viewOf d) (lengthsIn noLengths (sizesOf values book log)) (notices p x y day)) ≡ Fine → NoticeFits (d .frame) here h values book log t o
   notice-allowed known fine =
       let P = passed (rules (viewOf d) (lengthsIn noLengths (sizesOf values book log)) (notices p x y day)) fine in
       let n = lengths noLengths (sizesOf values book log) (d .frame .opening) (past 2 (rules (viewOf d) (lengthsIn noLengths (sizesOf values book log)) (notices p x y day)) P) in
@@ -105,22 +112,33 @@ module _ (d : Desk) (p x y day : ℕ) (values book log : List ℕ) (h : Held) (t
       let fits : rows * d .frame .opening .quarters ≤ d .frame .opening .values = rows-fit (d .frame .opening) (s .quarters) rows (omega arith) in
       let ok : all (versionRecordOk rows) (noticedIn d p x y day) ≡ true = restated-all (versionsIn d) (noticedIn d p x y day) (noticed-restated (d .frame .opening .clearing .0) p x y day (versionsIn d)) (versionRecordOk rows) (λ v. refl) (s .versions) in
       record {
-        sound = s;
-        fit = rw known (state-in d s p);
+        changed = record {
+          few = s .most;
+          allotted = s .groups;
+          fit = rw known (state-in d s p);
+          whole = n .1 ∙ s .book;
+          turn = rw T (turn-in (d .frame .opening .quarters) rows values (omega (arith, n .0)) (versionsIn d) (noticedIn d p x y day) p (s .versions) ok);
+        };
         check = rw H (check-found d p x (held p x (versionsIn d)) (held-right p x (versionsIn d)) (s .count) table (past 25 (rules (viewOf d) (lengthsIn noLengths (sizesOf values book log)) (notices p x y day)) P));
-        whole = n .1 ∙ s .book;
-        turn = rw T (turn-in (d .frame .opening .quarters) rows values (omega (arith, n .0)) (versionsIn d) (noticedIn d p x y day) p (s .versions) ok);
         left = room-left (d .frame .used) (d .frame .opening .log) log o (n .2) (ap (logFull (d .frame .used) (d .frame .opening .log)) D ∙ past 17 (rules (viewOf d) (lengthsIn noLengths (sizesOf values book log)) (notices p x y day)) P);
       }
 
+  -- the record found stands in the desk's table
+  stood : StandsIn (d .versions) h
+  stood = rw H (stands d p x (held p x (versionsIn d)) (held-right p x (versionsIn d)) (s .count) table)
+
+  -- its effect fits the desk
+  pub notice-fits : {here : PointState} {e : Effect} {book′ log′ : List ℕ} → NoticeEffect (d .frame) here h t o y day values book log e book′ log′ → Fits d e
+  notice-fits n = n .desk d stood .0
+
   -- its effect is what the step makes of the desk and the stores, whatever the further stores are
-  pub notice-stepped : (u : Stores) {here : PointState} {e : Effect} {book′ log′ : List ℕ} → here ≡ pointAt (d .points) p → NoticeEffect d here h t o y day values book log e book′ log′
+  pub notice-stepped : (u : Stores) {here : PointState} {e : Effect} {book′ log′ : List ℕ} → here ≡ pointAt (d .points) p → NoticeEffect (d .frame) here h t o y day values book log e book′ log′
       → IsStep (granting d (storing u values book log) (notices p x y day)) Accepted (changedBy d e) values book′ log′
   unfolding amended
   notice-stepped u {here = here} known n =
       record {
         answered = refl;
-        held = n .desk ∙ rw (H, D);
+        held = n .desk d stood .1 ∙ rw (H, D);
         valued = refl;
         booked = n .booked ∙ ap (λ (u : Turn). amendBy (d .frame .opening .quarters) (sidesOf (d .frame .groups) here) u values book) T ∙ rw known;
         noted = n .noted ∙ rw D;

@@ -1,16 +1,14 @@
 -- What the parts of a notice ask of one another.
 use mathlib.Core.Path.{_≡_}
-use mathlib.Core.Bool.{true, cond, _&&_}
+use mathlib.Core.Bool.{cond, _&&_}
 use mathlib.Core.List.{List}
-use Prim.Native.Nat.{ℕ, _*_, _<_}
+use Prim.Native.Nat.{ℕ, _<_}
 use lib.Dec.{eqb}
-use lib.ListN.{length}
-use Rattle.quantity.specs.Limits.{versions, bookRows}
+use Rattle.quantity.specs.Limits.{versions}
 use Rattle.state.specs.Change.{noticed, noticedDesk}
-use Rattle.state.specs.Desk.{versionsIn, deskWith, theDay, theUsed}
+use Rattle.state.specs.Desk.{versionsIn, withFrame, deskWith, theDay, theUsed}
 use Rattle.state.specs.Selection.{rowAt, raiseEarlier}
 use Rattle.state.specs.Status.{counts, isCheck, confirmedStatus}
-use Rattle.state.specs.Valid.{Sound, stateOk}
 use Rattle.state.specs.Version.{restatus, recordAt}
 use Rattle.state.specs.declared.Desk.{Desk}
 use Rattle.state.specs.declared.Frame.{Frame}
@@ -28,7 +26,7 @@ use Rattle.model.specs.Series.{sidesOf}
 use Rattle.model.specs.Step.{amendBy}
 use Rattle.model.specs.declared.Due.{Due}
 use Rattle.model.specs.declared.Turn.{Turn}
-use Rattle.amend.specs.Lent.{TurnIn, RoomIn}
+use Rattle.amend.specs.Lent.{RoomIn, Changed}
 use Rattle.checks.specs.declared.Survey.{Survey}
 
 -- the versions after a notice
@@ -54,23 +52,24 @@ turnBy f y day s =
 abbrev pub noticedRecord : (clearing verdict day : ℕ) → VersionRecord → VersionRecord
 noticedRecord c y day v = cond (eqb y 1) (restatus (confirmedStatus c day) v) v
 
--- the version found stands in the table, and is check data
-abbrev pub CheckAt : List VersionRecord → Held → Type 0
-CheckAt vs Absent = ⊥
-CheckAt vs (Has i v) = (i < versions) × (recordAt vs i ≡ v) × (v .status ≡ Check)
+-- the version found is check data, at a place of the table
+abbrev pub CheckFound : Held → Type 0
+CheckFound Absent = ⊥
+CheckFound (Has i v) = (i < versions) × (v .status ≡ Check)
+
+-- the record found stands in these versions
+abbrev pub StandsIn : List VersionRecord → Held → Type 0
+StandsIn vs Absent = Unit {0}
+StandsIn vs (Has i v) = recordAt vs i ≡ v
 
 -- the version found, the selections and the stores, where a notice is not refused
-pub record NoticeFits (d : Desk) (here : PointState) (h : Held) (values book log : List ℕ) (t : Turn) (due : Due) : Type 0 where
-  pub sound : Sound d
-  pub fit : stateOk here ≡ true
-  pub check : CheckAt (d .versions) h
-  pub whole : length book ≡ bookRows * d .frame .opening .quarters
-  pub turn : TurnIn (d .frame .opening .quarters) values t
-  pub left : RoomIn (d .frame .used) log due
+pub record NoticeFits (f : Frame) (here : PointState) (h : Held) (values book log : List ℕ) (t : Turn) (due : Due) : Type 0 where
+  pub changed : Changed f here values book t
+  pub check : CheckFound h
+  pub left : RoomIn (f .used) log due
 
--- what the notice makes of the desk, and of the book and the log
-pub record NoticeEffect (d : Desk) (here : PointState) (h : Held) (t : Turn) (due : Due) (y day : ℕ) (values book log : List ℕ) (e : Effect) (book′ log′ : List ℕ) : Type 0 where
-  pub fits : Fits d e
-  pub desk : changedBy d e ≡ deskWith (deskWith (noticedDesk d h y day) (theUsed (usedAfter due (d .frame .used)))) (theDay day)
-  pub booked : book′ ≡ amendBy (d .frame .opening .quarters) (sidesOf (d .frame .groups) here) t values book
-  pub noted : log′ ≡ logged (d .frame .used) due log
+-- what the notice makes of each desk with this frame in whose versions the record found stands, and of the book and the log
+pub record NoticeEffect (f : Frame) (here : PointState) (h : Held) (t : Turn) (due : Due) (y day : ℕ) (values book log : List ℕ) (e : Effect) (book′ log′ : List ℕ) : Type 0 where
+  pub desk : (d : Desk) → StandsIn (d .versions) h → Fits (withFrame d f) e × (changedBy (withFrame d f) e ≡ deskWith (deskWith (noticedDesk (withFrame d f) h y day) (theUsed (usedAfter due (f .used)))) (theDay day))
+  pub booked : book′ ≡ amendBy (f .opening .quarters) (sidesOf (f .groups) here) t values book
+  pub noted : log′ ≡ logged (f .used) due log

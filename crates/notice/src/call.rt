@@ -45,15 +45,15 @@ use state::statuses::confirmed_status;
 use state::statuses::counts_in;
 use state::statuses::is_check;
 ghost use mathlib.Core.Path.{_≡_};
+ghost use Prim.Native.Nat.{_*_, _≤_};
 ghost use Rattle.state.specs.Desk.{versionsIn};
-ghost use Rattle.state.specs.Valid.{Sound};
 ghost use Rattle.state.specs.Effect.{changedBy, Fits};
 ghost use Rattle.model.specs.Call.{Lengths, notices};
 ghost use Rattle.model.specs.Causes.{rules, firstOf, askingVersions};
 ghost use Rattle.model.specs.Log.{due as dueOf};
 ghost use Rattle.model.specs.View.{viewOf};
 ghost use Rattle.checks.specs.Lent.{lengthsIn};
-ghost use Rattle.checks.specs.Look.{Looked};
+ghost use Rattle.checks.specs.Look.{Seen, OfEach};
 ghost use Rattle.checks.specs.Stepped.{Stepped};
 ghost use Rattle.notice.specs.Notice.{noticedIn, ownBy, turnBy, noticedRecord, NoticeFits, NoticeEffect};
 
@@ -97,7 +97,7 @@ pub fn notice_turn(f: Frame, s: Survey, verdict: u64, day: Day) -> Turn
 
 // The table's lines for a notice, in their order.
 fn notice_ruling(
-    d: Desk,
+    f: Frame,
     l: Look,
     due: Due,
     point: PointNo,
@@ -106,12 +106,9 @@ fn notice_ruling(
     day: Day,
     n: Sizes,
 ) -> Ruling
-    requires { ⌜ Sound d ⌝ }
-    requires { ⌜ Looked d (askingVersions (point .0) (version .0)) l ⌝ }
-    requires { ⌜ due ≡ dueOf (versionsIn d) (noticedIn d (point .0) (version .0) verdict (day .0)) (point .0) (day .0) ⌝ }
-    ensures { λ r. ⌜ ((m : Lengths) → r ≡ firstOf (rules (viewOf d) (lengthsIn m n) (notices (point .0) (version .0) verdict (day .0)))) ⌝ }
+    requires { ⌜ 4 * f .used ≤ f .opening .log ⌝ }
+    ensures { λ r. ⌜ OfEach f (askingVersions (point .0) (version .0)) l (λ d. due ≡ dueOf (versionsIn d) (noticedIn d (point .0) (version .0) verdict (day .0)) (point .0) (day .0) → (m : Lengths) → r ≡ firstOf (rules (viewOf d) (lengthsIn m n) (notices (point .0) (version .0) verdict (day .0)))) ⌝ }
 {
-    let f = d.frame;
     let o = f.opening;
     let here = l.here;
     let found = l.survey;
@@ -147,7 +144,7 @@ fn noticed_record(v: VersionRecord, o: Opening, verdict: u64, day: Day) -> Versi
 
 // After a notice on the version found that is not refused. No record's row of values changes.
 fn notice_granted(
-    d: Desk,
+    f: Frame,
     here: PointState,
     held: Held,
     turn: Turn,
@@ -158,10 +155,9 @@ fn notice_granted(
     book: &mut [u64],
     log: &mut [u64],
 ) -> Effect
-    requires { ⌜ NoticeFits d here held (now values) (now book) (now log) turn due ⌝ }
-    ensures { λ r. ⌜ NoticeEffect d here held turn due verdict (day .0) (now (values .entry)) (now (book .entry)) (now (log .entry)) r (now (book .exit)) (now (log .exit)) ⌝ }
+    requires { ⌜ NoticeFits f here held (now values) (now book) (now log) turn due ⌝ }
+    ensures { λ r. ⌜ NoticeEffect f here held turn due verdict (day .0) (now (values .entry)) (now (book .entry)) (now (log .entry)) r (now (book .exit)) (now (log .exit)) ⌝ }
 {
-    let f = d.frame;
     let Held::Has { at, record } = held else {
         return unchanged(f);
     };
@@ -171,9 +167,9 @@ fn notice_granted(
     put_version(f, at, after, f.count, used, day)
 }
 
-// By one look at the desk.
+// By the desk's frame and one look at it.
 pub fn decide_notice(
-    d: Desk,
+    f: Frame,
     l: Look,
     point: PointNo,
     version: Version,
@@ -183,10 +179,9 @@ pub fn decide_notice(
     book: &mut [u64],
     log: &mut [u64],
 ) -> Decided
-    requires { ⌜ Looked d (askingVersions (point .0) (version .0)) l ⌝ }
-    ensures { λ r. ⌜ Fits d (r .effect) × Stepped d (notices (point .0) (version .0) verdict (day .0)) (now (values .entry)) (now (book .entry)) (now (log .entry)) (r .answer) (changedBy d (r .effect)) (now (values .entry)) (now (book .exit)) (now (log .exit)) ⌝ }
+    requires { ⌜ Seen f (askingVersions (point .0) (version .0)) l ⌝ }
+    ensures { λ r. ⌜ OfEach f (askingVersions (point .0) (version .0)) l (λ d. Fits d (r .effect) × Stepped d (notices (point .0) (version .0) verdict (day .0)) (now (values .entry)) (now (book .entry)) (now (log .entry)) (r .answer) (changedBy d (r .effect)) (now (values .entry)) (now (book .exit)) (now (log .exit))) ⌝ }
 {
-    let f = d.frame;
     if !l.valid {
         return refuse(f, Cause::NotOpen);
     }
@@ -198,13 +193,13 @@ pub fn decide_notice(
     let found = l.survey;
     let turn = notice_turn(f, found, verdict, day);
     let due = due_by(turn, point, day);
-    let decided = notice_ruling(d, l, due, point, version, verdict, day, n);
+    let decided = notice_ruling(f, l, due, point, version, verdict, day, n);
     match decided {
         Ruling::Refuse(cause) => refuse(f, cause),
         Ruling::Fine => {
             let here = l.here;
             let held = found.held;
-            accept(notice_granted(d, here, held, turn, due, verdict, day, values, book, log))
+            accept(notice_granted(f, here, held, turn, due, verdict, day, values, book, log))
         }
     }
 }
@@ -222,6 +217,7 @@ pub fn notice(
     ensures { λ r. ⌜ Stepped d (notices (point .0) (version .0) verdict (day .0)) (now (values .entry)) (now (book .entry)) (now (log .entry)) (r .answer) (r .desk) (now (values .entry)) (now (book .exit)) (now (log .exit)) ⌝ }
 {
     let l = look(d, asking_versions(point, version));
-    let r = decide_notice(d, l, point, version, verdict, day, values, book, log);
+    let frame = d.frame;
+    let r = decide_notice(frame, l, point, version, verdict, day, values, book, log);
     outcome(d, r)
 }

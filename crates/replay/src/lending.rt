@@ -60,7 +60,7 @@ pub fn lend_call(
     let n = lent_of(BOOK_ROWS as usize, book.len(), q);
     let m = lent_of(SCHEDULE_ROWS as usize, schedules.len(), q);
     decide(
-        d,
+        frame,
         l,
         call,
         groups,

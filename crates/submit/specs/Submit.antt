@@ -1,29 +1,32 @@
 -- What the parts of a submission ask of one another.
 use mathlib.Core.Path.{_≡_}
-use mathlib.Core.Bool.{true, cond}
-use mathlib.Core.List.{List}
+use mathlib.Core.Bool.{cond}
+use mathlib.Core.List.{List, map}
 use Prim.Native.Nat.{ℕ, _+_, _*_, _≤_, _<_}
 use lib.ListN.{length}
-use Rattle.quantity.specs.Limits.{bookRows, pointOk, versionOk, versions}
+use Rattle.quantity.specs.Limits.{versions}
+use Rattle.quantity.specs.Word.{word, signed}
 use Rattle.quantity.specs.declared.Version.{Version}
-use Rattle.state.specs.Change.{submitted}
-use Rattle.state.specs.Desk.{versionsIn, rowsUsed}
-use Rattle.state.specs.Point.{pointAt}
+use Rattle.book.specs.Row.{splice}
+use Rattle.state.specs.Change.{submitted, submittedDesk}
+use Rattle.state.specs.Desk.{versionsIn, rowsUsed, withFrame, deskWith, theDay, theUsed}
+use Rattle.state.specs.Effect.{changedBy, Fits}
 use Rattle.state.specs.Selection.{raise}
 use Rattle.state.specs.Status.{counts, submittedStatus}
-use Rattle.state.specs.Valid.{Sound}
 use Rattle.state.specs.declared.Desk.{Desk}
+use Rattle.state.specs.declared.Effect.{Effect}
 use Rattle.state.specs.declared.Frame.{Frame}
 use Rattle.state.specs.declared.PointState.{PointState}
 use Rattle.state.specs.declared.Selection.{Selection}
 use Rattle.state.specs.declared.VersionRecord.{VersionRecord}
 use Rattle.state.specs.declared.VersionRow.{VersionRow}
 use Rattle.checks.specs.declared.Survey.{Survey}
-use Rattle.model.specs.Log.{turnOf, due as dueOf}
-use Rattle.model.specs.Step.{versionBy}
+use Rattle.model.specs.Log.{logged, usedAfter}
+use Rattle.model.specs.Series.{sidesOf}
+use Rattle.model.specs.Step.{versionBy, amendBy}
 use Rattle.model.specs.declared.Due.{Due}
 use Rattle.model.specs.declared.Turn.{Turn}
-use Rattle.amend.specs.Lent.{RoomIn}
+use Rattle.amend.specs.Lent.{RoomIn, Changed}
 
 -- the row of the version table that a submission takes, with the status that the day gives
 abbrev pub rowBy : Frame → Version → (day : ℕ) → VersionRow
@@ -41,18 +44,17 @@ turnBy f x day s = record { old1 = s .first; new1 = ownBy 1 f x day (s .first); 
 abbrev pub submittedIn : Desk → (point version day : ℕ) → List VersionRecord
 submittedIn d p x day = submitted (versionBy d p x day) (versionsIn d)
 
--- what a submission that is not refused has passed
-pub record Granted (d : Desk) (s : PointState) (p x day : ℕ) (series values book log : List ℕ) (t : Turn) (due : Due) : Type 0 where
-  pub sound : Sound d
-  pub here : s ≡ pointAt (d .points) p
-  pub table : length (d .versions) ≡ versions
-  pub point : pointOk p ≡ true
-  pub version : versionOk x ≡ true
-  pub long : length values ≡ d .frame .opening .values
-  pub whole : length book ≡ bookRows * d .frame .opening .quarters
-  pub full : length series ≡ d .frame .opening .quarters
-  pub more : d .frame .count < versions
-  pub room : (d .frame .count + 1) * d .frame .opening .quarters ≤ d .frame .opening .values
-  pub left : RoomIn (d .frame .used) log due
-  pub turn : t ≡ turnOf (versionsIn d) (submittedIn d p x day) p
-  pub row : due ≡ dueOf (versionsIn d) (submittedIn d p x day) p day
+-- what a submission that is not refused has passed, by the frame and what is lent
+pub record Granted (f : Frame) (here : PointState) (series values book log : List ℕ) (t : Turn) (due : Due) : Type 0 where
+  pub changed : Changed f here values book t
+  pub left : RoomIn (f .used) log due
+  pub full : length series ≡ f .opening .quarters
+  pub more : f .count < versions
+  pub room : (f .count + 1) * f .opening .quarters ≤ length values
+
+-- what it makes of each desk with that frame, and of values, book and log; v is the version that it makes
+pub record Delivered (f : Frame) (here : PointState) (v : VersionRecord) (day : ℕ) (t : Turn) (due : Due) (series values book log : List ℕ) (e : Effect) (values′ book′ log′ : List ℕ) : Type 0 where
+  pub desk : (d : Desk) → Fits (withFrame d f) e × (changedBy (withFrame d f) e ≡ deskWith (deskWith (submittedDesk (withFrame d f) v) (theUsed (usedAfter due (f .used)))) (theDay day))
+  pub valued : values′ ≡ splice values (rowsUsed f * f .opening .quarters) (f .opening .quarters) (map word (map signed series))
+  pub booked : book′ ≡ amendBy (f .opening .quarters) (sidesOf (f .groups) here) t values′ book
+  pub noted : log′ ≡ logged (f .used) due log

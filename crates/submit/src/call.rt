@@ -42,23 +42,19 @@ use state::statuses::counts_in;
 use state::statuses::submitted_status;
 ghost use mathlib.Core.Path.{_≡_};
 ghost use mathlib.Core.List.{map};
-ghost use Prim.Native.Nat.{_+_, _*_, _≤_};
-ghost use lib.ListN.{length};
-ghost use Rattle.quantity.specs.Limits.{versions};
+ghost use Prim.Native.Nat.{_*_, _≤_};
+ghost use Rattle.quantity.specs.Limits.{versions, mostQuarters};
 ghost use Rattle.quantity.specs.Word.{signed};
 ghost use Rattle.state.specs.Desk.{versionsIn};
-ghost use Rattle.state.specs.Valid.{Sound};
 ghost use Rattle.state.specs.Effect.{changedBy, Fits};
-ghost use Rattle.model.specs.Call.{Stores, Lengths, submits};
+ghost use Rattle.model.specs.Call.{Lengths, submits};
 ghost use Rattle.model.specs.Causes.{rules, firstOf, askingVersions};
 ghost use Rattle.model.specs.Log.{due as dueOf};
-ghost use Rattle.model.specs.Step.{granting, versionBy};
 ghost use Rattle.model.specs.View.{viewOf};
-ghost use Rattle.model.specs.declared.Answer.the-variants.{Accepted};
 ghost use Rattle.checks.specs.Lent.{lengthsIn};
-ghost use Rattle.checks.specs.Look.{Looked};
-ghost use Rattle.checks.specs.Stepped.{storing, IsStep, Stepped};
-ghost use Rattle.submit.specs.Submit.{turnBy, submittedIn, Granted};
+ghost use Rattle.checks.specs.Look.{Seen, OfEach};
+ghost use Rattle.checks.specs.Stepped.{Stepped};
+ghost use Rattle.submit.specs.Submit.{turnBy, submittedIn, Granted, Delivered};
 
 // What a submission makes of its point's selections: the version that it makes stands behind those held, with the next row of values.
 pub fn submit_turn(f: Frame, s: Survey, version: Version, day: Day) -> Turn
@@ -88,7 +84,7 @@ pub fn submit_turn(f: Frame, s: Survey, version: Version, day: Day) -> Turn
 
 // The table's lines for a submission, in their order.
 fn submit_ruling(
-    d: Desk,
+    f: Frame,
     l: Look,
     due: Due,
     point: PointNo,
@@ -97,13 +93,10 @@ fn submit_ruling(
     series: &[u64],
     n: Sizes,
 ) -> Ruling
-    requires { ⌜ Sound d ⌝ }
-    requires { ⌜ Looked d (askingVersions (point .0) (version .0)) l ⌝ }
-    requires { ⌜ length (versionsIn d) ≡ d .frame .count ⌝ }
-    requires { ⌜ due ≡ dueOf (versionsIn d) (submittedIn d (point .0) (version .0) (day .0)) (point .0) (day .0) ⌝ }
-    ensures { λ r. ⌜ ((m : Lengths) → r ≡ firstOf (rules (viewOf d) (lengthsIn m n) (submits (point .0) (version .0) (day .0) (map signed (now (series .entry)))))) ⌝ }
+    requires { ⌜ (f .count ≤ versions) × (f .opening .quarters ≤ mostQuarters) ⌝ }
+    requires { ⌜ 4 * f .used ≤ f .opening .log ⌝ }
+    ensures { λ r. ⌜ OfEach f (askingVersions (point .0) (version .0)) l (λ d. due ≡ dueOf (versionsIn d) (submittedIn d (point .0) (version .0) (day .0)) (point .0) (day .0) → (m : Lengths) → r ≡ firstOf (rules (viewOf d) (lengthsIn m n) (submits (point .0) (version .0) (day .0) (map signed (now (series .entry)))))) ⌝ }
 {
-    let f = d.frame;
     let o = f.opening;
     let here = l.here;
     let found = l.survey;
@@ -128,7 +121,7 @@ fn submit_ruling(
 
 // The values, the book and the log after a submission that is not refused. The effect has its version, the log rows used and its day.
 fn submit_granted(
-    d: Desk,
+    f: Frame,
     here: PointState,
     turn: Turn,
     due: Due,
@@ -139,11 +132,9 @@ fn submit_granted(
     book: &mut [u64],
     log: &mut [u64],
 ) -> Effect
-    requires { ⌜ v ≡ versionBy d (v .point .0) (v .version .0) (day .0) ⌝ }
-    requires { ⌜ Granted d here (v .point .0) (v .version .0) (day .0) (now series) (now values) (now book) (now log) turn due ⌝ }
-    ensures { λ r. ⌜ Fits d r × ((s : Stores) → IsStep (granting d (storing s (now (values .entry)) (now (book .entry)) (now (log .entry))) (submits (v .point .0) (v .version .0) (day .0) (map signed (now (series .entry))))) Accepted (changedBy d r) (now (values .exit)) (now (book .exit)) (now (log .exit))) ⌝ }
+    requires { ⌜ Granted f here (now series) (now values) (now book) (now log) turn due ⌝ }
+    ensures { λ r. ⌜ Delivered f here v (day .0) turn due (now (series .entry)) (now (values .entry)) (now (book .entry)) (now (log .entry)) r (now (values .exit)) (now (book .exit)) (now (log .exit)) ⌝ }
 {
-    let f = d.frame;
     let opening = f.opening;
     let q = opening.quarters as usize;
     let at = f.count;
@@ -153,9 +144,9 @@ fn submit_granted(
     put_version(f, at, v, at + 1, used, day)
 }
 
-// The answer and what it makes of the desk, by one look at it; the stores are as after the call.
+// The answer and what it makes of the desk, by its frame and one look at it; the stores are as after the call.
 pub fn decide_submit(
-    d: Desk,
+    f: Frame,
     l: Look,
     point: PointNo,
     version: Version,
@@ -165,10 +156,9 @@ pub fn decide_submit(
     book: &mut [u64],
     log: &mut [u64],
 ) -> Decided
-    requires { ⌜ Looked d (askingVersions (point .0) (version .0)) l ⌝ }
-    ensures { λ r. ⌜ Fits d (r .effect) × Stepped d (submits (point .0) (version .0) (day .0) (map signed (now (series .entry)))) (now (values .entry)) (now (book .entry)) (now (log .entry)) (r .answer) (changedBy d (r .effect)) (now (values .exit)) (now (book .exit)) (now (log .exit)) ⌝ }
+    requires { ⌜ Seen f (askingVersions (point .0) (version .0)) l ⌝ }
+    ensures { λ r. ⌜ OfEach f (askingVersions (point .0) (version .0)) l (λ d. Fits d (r .effect) × Stepped d (submits (point .0) (version .0) (day .0) (map signed (now (series .entry)))) (now (values .entry)) (now (book .entry)) (now (log .entry)) (r .answer) (changedBy d (r .effect)) (now (values .exit)) (now (book .exit)) (now (log .exit))) ⌝ }
 {
-    let f = d.frame;
     if !l.valid {
         return refuse(f, Cause::NotOpen);
     }
@@ -180,14 +170,14 @@ pub fn decide_submit(
     let found = l.survey;
     let turn = submit_turn(f, found, version, day);
     let due = due_by(turn, point, day);
-    let ruling = submit_ruling(d, l, due, point, version, day, series, n);
+    let ruling = submit_ruling(f, l, due, point, version, day, series, n);
     match ruling {
         Ruling::Refuse(c) => refuse(f, c),
         Ruling::Fine => {
             let here = l.here;
             let opening = f.opening;
             let v = new_version(opening.first, f.count, point, version, day);
-            accept(submit_granted(d, here, turn, due, v, day, series, values, book, log))
+            accept(submit_granted(f, here, turn, due, v, day, series, values, book, log))
         }
     }
 }
@@ -205,6 +195,7 @@ pub fn submit(
     ensures { λ r. ⌜ Stepped d (submits (point .0) (version .0) (day .0) (map signed (now (series .entry)))) (now (values .entry)) (now (book .entry)) (now (log .entry)) (r .answer) (r .desk) (now (values .exit)) (now (book .exit)) (now (log .exit)) ⌝ }
 {
     let l = look(d, asking_versions(point, version));
-    let r = decide_submit(d, l, point, version, day, series, values, book, log);
+    let frame = d.frame;
+    let r = decide_submit(frame, l, point, version, day, series, values, book, log);
     outcome(d, r)
 }

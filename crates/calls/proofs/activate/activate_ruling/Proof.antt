@@ -39,11 +39,10 @@ or-if-requires-5 c κs = tt
 
 returns : tie.Need-returns
 unfolding refusalBy firstOf fold
-returns c n =
+returns c d k n =
     let c3 = c .before .before .before in
     let c1 = c3 .before .before .before .before .before .before in
     let o = c1 .before .before in
-    let k = o .before .before .before .before .before .pre in
     checked _ (c .or-if5 .ensures)
     (checked _ (c .before .or-if4 .ensures)
     (checked _ (c3 .or-if3 .ensures)

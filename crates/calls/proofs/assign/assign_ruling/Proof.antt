@@ -33,7 +33,7 @@ or-if-requires-4 c κs = tt
 
 returns : tie.Need-returns
 unfolding refusalBy firstOf fold
-returns c n =
+returns c d k n =
     let c2 = c .before .before .before .before .before .before in
     let c1 = c2 .before .before .before .before in
     let o = c1 .before .before in
@@ -41,7 +41,7 @@ returns c n =
     (checked _ (c .before .before .before .or-if3 .ensures)
     (checked _ (c2 .or-if2 .ensures)
     (checked _ (c1 .or-if .ensures)
-    (begun _ (o .at-work .ensures) (o .before .before .before .pre))
+    (begun _ (o .at-work .ensures) (k .valid))
     (book-other _ _))
     (rw (c2 .before .before .before .delta-ok .ensures, c2 .before .before .group-ok .ensures, c2 .before .day-ok .ensures)))
     refl)

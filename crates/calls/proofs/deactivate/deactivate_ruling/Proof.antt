@@ -7,7 +7,7 @@ use Rattle.model.specs.Causes.{rules, firstOf}
 use Rattle.model.specs.Step.{refusalBy}
 use Rattle.model.specs.View.{viewOf}
 use Rattle.checks.proofs.Deciding.{checked, checked-within, begun}
-use Rattle.state.specs.Desk.{rowsIn, versionsIn}
+use Rattle.state.specs.Desk.{rowsIn, versionsIn, withFrame}
 use Rattle.state.proofs.Bounds.{sound}
 use Rattle.state.proofs.Picks.{highest-any}
 use Rattle.calls.proofs.deactivate.deactivate_ruling.Statement.{statement}
@@ -42,13 +42,12 @@ or-if-requires-5 c κs = tt
 
 returns : tie.Need-returns
 unfolding refusalBy firstOf fold
-returns c n =
+returns c e k n =
     let c3 = c .before .before .before .before in
     let c1 = c3 .before .before .before .before .before .before in
     let o = c1 .before .before .before in
-    let s = o .before .before .before .before .before in
-    let k = s .pre in
-    let d = s .args .d in
+    let s = o .before .before .before .before in
+    let d = withFrame e (s .args .frame) in
     let above = take 5 (rules (viewOf d) n (deactivates (s .args .point .0) (s .args .day .0))) in
     checked-within d above _ (c .or-if5 .ensures)
     (checked _ (c .before .before .or-if4 .ensures)
@@ -60,7 +59,7 @@ returns c n =
     refl)
     refl)
     (rw (c .before .before .before .is-active .ensures, k .here)))
-    (λ e. rw (k .survey refl .highest) (highest-any (s .args .point .0) (rowsIn (d .frame .opening)) (versionsIn d) (sound d e .versions)))
+    (λ v. rw (k .survey refl .highest) (highest-any (s .args .point .0) (rowsIn (d .frame .opening)) (versionsIn d) (sound d v .versions)))
 
 pub deactivate-ruling-spec : {M : Type 1} → statement M
 deactivate-ruling-spec =

@@ -3,6 +3,7 @@ use mathlib.Core.Path.{sym, ap, _∙_}
 use Prim.Native.Nat.{ℕ}
 use borrow.Author.Tests.{not-false}
 use lib.ListN.{replicate}
+use Rattle.state.specs.Desk.{withFrame}
 use Rattle.checks.proofs.Deciding.{allowed, opens-lengths, unmoved, whole-refused, whole-granted}
 use borrow.Author.Needs.{needs}
 use Rattle.calls.proofs.open.decide_open.Statement.{statement}
@@ -33,9 +34,9 @@ accept-requires : tie.Need-accept-requires
 accept-requires c κs = search needs
 
 returns : tie.Need-returns
-returns c =
-    let u = unmoved _ (c .refuse .ensures) in
-    (u .0, whole-refused _ _ _ (c .before .before .before .before .open-ruling .ensures) (c .before .before .v .given .1) (u .1))
+returns c e =
+    let u = unmoved (withFrame e (c .before .before .before .before .before .before .before .before .before .args .frame)) (c .refuse .ensures) in
+    (u .0, whole-refused _ _ _ (c .before .before .before .before .open-ruling .ensures e) (c .before .before .v .given .1) (u .1))
 
 same-length : tie.Need-same-length
 same-length c = search needs
@@ -44,16 +45,16 @@ same-length-2 : tie.Need-same-length-2
 same-length-2 c = search needs
 
 returns-2 : tie.Need-returns-2
-returns-2 c =
+returns-2 c d =
     let k = c .accept .ensures in
-    let a = c .before .before .before .before .before .before .before .before .before .before .before .before .before .before .before .before .before .before .args in
-    let v = c .before .before .before .before .before .before .before .before .before .before .before .before .open-ruling .ensures in
+    let a = c .before .before .before .before .before .before .before .before .before .before .before .before .before .before .before .before .before .args in
+    let v = c .before .before .before .before .before .before .before .before .before .before .before .before .open-ruling .ensures d in
     let e = c .before .before .before .before .before .before .before .before .before .before .enum-told .given .1 in
     let h = allowed _ _ (sym v ∙ e) in
     let n = opens-lengths _ _ (not-false _ (h .1 .1 .0)) in
     let book = c .before .before .before .before .before .before .before .before .clear .ensures ∙ ap (λ (n : ℕ). replicate n 0) (n .0) in
     let schedules = c .before .before .before .before .clear2 .ensures ∙ ap (λ (n : ℕ). replicate n 0) (n .1) in
-    let p = c .before .open-desk .ensures (a .d) (h .1 .0) in (
+    let p = c .before .open-desk .ensures (withFrame d (a .frame)) (h .1 .0) in (
       rw (k .1) (p .0),
       whole-granted _ _ _ v e
           (record {

@@ -27,8 +27,8 @@ or-if-requires-2 c κs = tt
 
 returns : tie.Need-returns
 unfolding refusalBy firstOf fold opensOk
-returns c =
-    let s = c .before .before .before .before .before .before .before in
+returns c d =
+    let s = c .before .before .before .before .before .before in
     let n : length (s .args .groups) ≡ 17 = search (needs, length-of) in
     checked _ (c .or-if2 .ensures)
     (checked _ (c .before .before .before .or-if .ensures) unasked (c .before .before .before .before .is-open .ensures))

@@ -1,5 +1,6 @@
 -- `decide_settle` meets its contract. Assumes nothing.
 use mathlib.Core.Path.{refl, sym, _∙_}
+use Rattle.state.specs.Desk.{withFrame}
 use Rattle.model.specs.Call.{lengthsOf}
 use Rattle.checks.proofs.Deciding.{allowed, noLengths, unmoved, answer-refused, answer-granted}
 use borrow.Author.Tests.{not-false}
@@ -8,7 +9,7 @@ use Rattle.calls.proofs.settle.decide_settle.Statement.{statement}
 use Rattle.calls.proofs.settle.decide_settle.Tie as tie
 
 settle-ruling-requires : tie.Need-settle-ruling-requires
-settle-ruling-requires c κs = search needs
+settle-ruling-requires c κs = tt
 
 enum-known-v : tie.Need-enum-known-v
 enum-known-v c = search needs
@@ -26,18 +27,18 @@ accept-requires : tie.Need-accept-requires
 accept-requires c κs = search needs
 
 returns : tie.Need-returns
-returns c =
-    let u = unmoved _ (c .refuse .ensures) in
-    (u .0, λ s. answer-refused _ _ s (c .before .before .before .before .settle-ruling .ensures (lengthsOf s)) (c .before .before .v .given .1) (u .1))
+returns c e k =
+    let u = unmoved (withFrame e (c .before .before .before .before .before .args .frame)) (c .refuse .ensures) in
+    (u .0, λ s. answer-refused _ _ s (c .before .before .before .before .settle-ruling .ensures e k (lengthsOf s)) (c .before .before .v .given .1) (u .1))
 
 returns-2 : tie.Need-returns-2
-returns-2 c =
-    let k = c .accept .ensures in
-    let h = allowed _ _ (sym (c .before .before .before .before .settle-ruling .ensures noLengths) ∙ c .before .before .enum-told .given .1) in
-    let e = c .before .settle-run .ensures (c .before .before .before .before .before .before .args .d) refl (not-false _ (h .0)) in (
-      rw (k .1) (e .0),
-      λ s. answer-granted _ _ s (c .before .before .before .before .settle-ruling .ensures (lengthsOf s)) (c .before .before .enum-told .given .1)
-          (record { answered = k .0; held = rw (k .1) (e .1) }),
+returns-2 c e k =
+    let a = c .accept .ensures in
+    let h = allowed _ _ (sym (c .before .before .before .before .settle-ruling .ensures e k noLengths) ∙ c .before .before .enum-told .given .1) in
+    let p = c .before .settle-run .ensures (withFrame e (c .before .before .before .before .before .args .frame)) refl (not-false _ (h .0)) in (
+      rw (a .1) (p .0),
+      λ s. answer-granted _ _ s (c .before .before .before .before .settle-ruling .ensures e k (lengthsOf s)) (c .before .before .enum-told .given .1)
+          (record { answered = a .0; held = rw (a .1) (p .1) }),
     )
 
 pub decide-settle-spec : {M : Type 1} → statement M

@@ -39,7 +39,7 @@ or-if-requires-5 c κs = tt
 
 returns : tie.Need-returns
 unfolding refusalBy firstOf fold
-returns c n =
+returns c d k n =
     let c3 = c .before .before .before .before in
     let c1 = c3 .before .before .before .before .before .before in
     let o = c1 .before .before .before in
@@ -48,7 +48,7 @@ returns c n =
     (checked _ (c3 .or-if3 .ensures)
     (checked _ (c3 .before .before .before .or-if2 .ensures)
     (checked _ (c1 .or-if .ensures)
-    (begun _ (o .at-work .ensures) (o .before .before .before .before .before .pre))
+    (begun _ (o .at-work .ensures) (k .valid))
     (rw (c1 .before .before .run-ok .ensures, c1 .before .day-ok .ensures)))
     refl)
     (rw (o .before .deadline-of .ensures)))

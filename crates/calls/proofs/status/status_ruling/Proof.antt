@@ -33,10 +33,9 @@ or-if-requires-3 c κs = tt
 
 returns : tie.Need-returns
 unfolding refusalBy firstOf fold
-returns c n =
+returns c d k n =
     let c1 = c .before .before .before .before in
     let o = c1 .before .before .before in
-    let k = o .before .before .before .before .pre in
     checked _ (c .or-if3 .ensures)
     (checked _ (c .before .before .or-if2 .ensures)
     (checked _ (c1 .or-if .ensures)

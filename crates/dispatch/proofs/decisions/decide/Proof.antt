@@ -23,34 +23,35 @@ enum-known-call-2 c = search needs
 
 decide-activate-requires : tie.Need-decide-activate-requires
 unfolding asked
-decide-activate-requires c κs = rw (c .before .call2 .given .1) at (c .before .before .before .before .before .before .before .before .pre)
+decide-activate-requires c κs = let s = c .before .before .before .before .before .before .before .before in record { desk = s .pre .desk; looked = rw (c .before .call2 .given .1) at (s .pre .looked) }
 
 enum-known-call-3 : tie.Need-enum-known-call-3
 enum-known-call-3 c = search needs
 
 decide-deactivate-requires : tie.Need-decide-deactivate-requires
 unfolding asked
-decide-deactivate-requires c κs = rw (c .before .call3 .given .1) at (c .before .before .before .before .before .before .before .before .pre)
+decide-deactivate-requires c κs = let s = c .before .before .before .before .before .before .before .before in record { desk = s .pre .desk; looked = rw (c .before .call3 .given .1) at (s .pre .looked) }
 
 enum-known-call-4 : tie.Need-enum-known-call-4
 enum-known-call-4 c = search needs
 
 decide-submit-requires : tie.Need-decide-submit-requires
 unfolding asked
-decide-submit-requires c κs = rw (c .before .before .before .before .call4 .given .1) at (c .before .before .before .before .before .before .before .before .before .before .before .pre)
+decide-submit-requires c κs = let s = c .before .before .before .before .before .before .before .before .before .before .before in record { desk = s .pre .desk; looked = rw (c .before .before .before .before .call4 .given .1) at (s .pre .looked) }
 
 enum-known-call-5 : tie.Need-enum-known-call-5
 enum-known-call-5 c = search needs
 
 decide-notice-requires : tie.Need-decide-notice-requires
 unfolding asked
-decide-notice-requires c κs = rw (c .before .before .before .before .call5 .given .1) at (c .before .before .before .before .before .before .before .before .before .before .before .pre)
+decide-notice-requires c κs = let s = c .before .before .before .before .before .before .before .before .before .before .before in record { desk = s .pre .desk; looked = rw (c .before .before .before .before .call5 .given .1) at (s .pre .looked) }
 
 enum-known-call-6 : tie.Need-enum-known-call-6
 enum-known-call-6 c = search needs
 
 decide-assign-requires : tie.Need-decide-assign-requires
-decide-assign-requires c κs = search needs
+unfolding asked
+decide-assign-requires c κs = let s = c .before .before .before .before .before .before .before .before .before in record { desk = s .pre .desk; looked = rw (c .before .before .call6 .given .1) at (s .pre .looked) }
 
 enum-known-call-7 : tie.Need-enum-known-call-7
 enum-known-call-7 c = search needs
@@ -72,15 +73,19 @@ same-length-4 c = search needs
 
 returns : tie.Need-returns
 unfolding asked
-returns c = rw (c .before .before .before .before .before .before .before .before .before .before .call .given .1) (c .before .before .before .before .decide-open .ensures)
+returns c d k = rw (c .before .before .before .before .before .before .before .before .before .before .call .given .1) (c .before .before .before .before .decide-open .ensures d)
 
 returns-2 : tie.Need-returns-2
 unfolding asked
-returns-2 c = let e = c .decide-activate .ensures in rw (c .before .before .call2 .given .1) (e .0, unplanned _ _ _ refl (none-taken _ _ _ refl (e .1 _)))
+returns-2 c d k =
+    let e = c .decide-activate .ensures d (rw (c .before .before .call2 .given .1) at k) in
+    rw (c .before .before .call2 .given .1) (e .0, unplanned _ _ _ refl (none-taken _ _ _ refl (e .1 _)))
 
 returns-3 : tie.Need-returns-3
 unfolding asked
-returns-3 c = let e = c .decide-deactivate .ensures in rw (c .before .before .call3 .given .1) (e .0, unplanned _ _ _ refl (none-taken _ _ _ refl (e .1 _)))
+returns-3 c d k =
+    let e = c .decide-deactivate .ensures d (rw (c .before .before .call3 .given .1) at k) in
+    rw (c .before .before .call3 .given .1) (e .0, unplanned _ _ _ refl (none-taken _ _ _ refl (e .1 _)))
 
 same-length-5 : tie.Need-same-length-5
 same-length-5 c = search needs
@@ -93,8 +98,8 @@ same-length-7 c = search needs
 
 returns-4 : tie.Need-returns-4
 unfolding asked
-returns-4 c =
-    let e = c .before .before .before .before .before .before .decide-submit .ensures in
+returns-4 c d k =
+    let e = c .before .before .before .before .before .before .decide-submit .ensures d (rw (c .before .before .before .before .before .before .before .before .before .before .before .call4 .given .1) at k) in
     let s = lent-to (c .before .before .before .before .before .before .before .before .before .before .before .before .before .before .before .before .before .before) in
     rw (c .before .before .before .before .before .before .before .before .before .before .before .call4 .given .1) (e .0, unplanned _ _ s refl (e .1 s))
 
@@ -109,8 +114,8 @@ same-length-10 c = search needs
 
 returns-5 : tie.Need-returns-5
 unfolding asked
-returns-5 c =
-    let e = c .before .before .before .before .decide-notice .ensures in
+returns-5 c d k =
+    let e = c .before .before .before .before .decide-notice .ensures d (rw (c .before .before .before .before .before .before .before .before .before .call5 .given .1) at k) in
     let s = lent-to (c .before .before .before .before .before .before .before .before .before .before .before .before .before .before .before .before) in
     rw (c .before .before .before .before .before .before .before .before .before .call5 .given .1) (e .0, unplanned _ _ s refl (e .1 s))
 
@@ -119,14 +124,16 @@ same-length-11 c = search needs
 
 returns-6 : tie.Need-returns-6
 unfolding asked
-returns-6 c =
-    let e = c .before .before .decide-assign .ensures in
+returns-6 c d k =
+    let e = c .before .before .decide-assign .ensures d (rw (c .before .before .before .before .before .call6 .given .1) at k) in
     let s = lent-to (c .before .before .before .before .before .before .before .before .before .before .before .before) in
     rw (c .before .before .before .before .before .call6 .given .1) (e .0, unplanned _ _ s refl (book-taken _ _ s refl (e .1 s)))
 
 returns-7 : tie.Need-returns-7
 unfolding asked
-returns-7 c = let e = c .decide-settle .ensures in rw (c .before .before .call7 .given .1) (e .0, unplanned _ _ _ refl (none-taken _ _ _ refl (e .1 _)))
+returns-7 c d k =
+    let e = c .decide-settle .ensures d (rw (c .before .before .call7 .given .1) at k) in
+    rw (c .before .before .call7 .given .1) (e .0, unplanned _ _ _ refl (none-taken _ _ _ refl (e .1 _)))
 
 pub decide-spec : {M : Type 1} → statement M
 decide-spec =

@@ -57,28 +57,26 @@ or-if-requires-9 : tie.Need-or-if-requires-9
 or-if-requires-9 c κs = search needs
 
 log-full-requires : tie.Need-log-full-requires
-log-full-requires c κs = c .before .before .before .before .before .before .before .before .before .before .before .before .before .before .before .before .before .before .before .before .before .before .before .before .before .pre .0 .used
+log-full-requires c κs = c .before .before .before .before .before .before .before .before .before .before .before .before .before .before .before .before .before .before .before .before .before .before .before .before .pre
 
 or-if-requires-10 : tie.Need-or-if-requires-10
 or-if-requires-10 c κs = search needs
 
 returns : tie.Need-returns
 unfolding firstOf fold
-returns c m =
-    let s = c .before .before .before .before .before .before .before .before .before .before .before .before .before .before .before .before .before .before .before .before .before .before .before .before .before .before .before in
-    let a = s .args in
-    let f = s .pre .1 .0 .survey refl in
-    let here = s .pre .1 .0 .here in
+returns c d looked owed m =
+    let a = c .before .before .before .before .before .before .before .before .before .before .before .before .before .before .before .before .before .before .before .before .before .before .before .before .before .before .args in
+    let f = looked .survey refl in
     let k0 = checked NotOpen (c .before .before .before .before .before .before .before .before .before .before .before .before .before .before .before .before .before .before .before .before .before .or-if .ensures) refl (ap not (c .before .before .before .before .before .before .before .before .before .before .before .before .before .before .before .before .before .before .before .before .before .before .is-open .ensures)) in
     let k1 = checked WrongLength (c .before .before .before .before .before .before .before .before .before .before .before .before .before .before .before .before .before .before .before .or-if2 .ensures) k0 (c .before .before .before .before .before .before .before .before .before .before .before .before .before .before .before .before .before .before .before .before .other-lengths .ensures m) in
     let k2 = checked BadField (c .before .before .before .before .before .before .before .before .before .before .before .before .before .before .before .before .before .or-if3 .ensures) k1 (ap not (c .before .before .before .before .before .before .before .before .before .before .before .before .before .before .before .before .before .before .notice-ok .ensures)) in
     let k3 = checked PastDay (c .before .before .before .before .before .before .before .before .before .before .before .before .before .before .or-if4 .ensures) k2 refl in
     let k4 = checked AfterCorrection (c .before .before .before .before .before .before .before .before .before .before .before .or-if5 .ensures) k3 refl in
-    let k5 = checked NotActive (c .before .before .before .before .before .before .before .before .before .or-if6 .ensures) k4 (ap not (c .before .before .before .before .before .before .before .before .before .before .is-active .ensures ∙ ap isActive here)) in
+    let k5 = checked NotActive (c .before .before .before .before .before .before .before .before .before .or-if6 .ensures) k4 (ap not (c .before .before .before .before .before .before .before .before .before .before .is-active .ensures ∙ ap isActive (looked .here))) in
     let k6 = checked NoVersion (c .before .before .before .before .before .before .before .or-if7 .ensures) k5 (c .before .before .before .before .before .before .before .before .absent .ensures ∙ ap isAbsent (f .held)) in
     let k7 = checked NoticeBelow (c .before .before .before .before .or-if8 .ensures) k6 (ap (ltb (a .version .0)) (f .highest)) in
     let k8 = checked NotCheckData (c .before .before .or-if9 .ensures) k7 (c .before .before .before .not-check .ensures ∙ ap notCheck (f .held)) in
-    checked NoLogRow (c .or-if10 .ensures) k8 (c .before .log-full .ensures ∙ ap (logFull (a .d .frame .used) (a .d .frame .opening .log)) (s .pre .1 .1))
+    checked NoLogRow (c .or-if10 .ensures) k8 (c .before .log-full .ensures ∙ ap (logFull (a .f .used) (a .f .opening .log)) owed)
 
 pub notice-ruling-spec : {M : Type 1} → statement M
 notice-ruling-spec =

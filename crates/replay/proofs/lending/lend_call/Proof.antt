@@ -3,8 +3,11 @@ use mathlib.Core.Path.{sym, ap, _∙_}
 use mathlib.Core.List.{map}
 use native.Mathlib.Omega.{arith}
 use Rattle.quantity.specs.Word.{signed}
+use Rattle.model.specs.Causes.{terms}
 use Rattle.model.specs.declared.Asks.{Asks}
+use Rattle.checks.specs.Look.{Looked}
 use Rattle.checks.specs.Survey.{recordAt}
+use Rattle.dispatch.specs.Asked.{asked}
 use Rattle.replay.proofs.Parts.{lent-inside, handed-by}
 use borrow.Author.Needs.{needs}
 use Rattle.replay.proofs.lending.lend_call.Statement.{statement}
@@ -46,10 +49,12 @@ part-decide-start-2 c = search needs
 part-decide-end-2 : tie.Need-part-decide-end-2
 part-decide-end-2 c = rw (c .before .before .before .lent-of2 .ensures) (lent-inside _ _ _)
 
+-- the look is one at the desk
+seen : (c : tie.After-glance) → Looked (c .before .before .before .before .before .before .before .args .d) (terms (asked (c .before .before .before .before .before .before .before .args .call) (c .before .before .before .before .before .before .before .args .groups) (map signed (c .before .before .before .before .before .before .before .args .series .now))) .asks) (c .glance .result)
+seen c = let a = c .before .before .before .before .before .before .before .args in rw (c .before .asks-of .ensures (a .groups) (map signed (a .series .now))) at (c .glance .ensures)
+
 decide-requires : tie.Need-decide-requires
-decide-requires c κs =
-    let a = c .before .before .before .before .before .before .before .before .before .before .before .before .before .before .before .before .args in
-    rw (c .before .before .before .before .before .before .before .before .before .before .asks-of .ensures (a .groups) (map signed (a .series .now))) at (c .before .before .before .before .before .before .before .before .before .glance .ensures)
+decide-requires c κs = record { desk = c .before .before .before .before .before .before .before .before .before .before .before .before .before .before .before .before .args .d; looked = seen (c .before .before .before .before .before .before .before .before .before) }
 
 same-length : tie.Need-same-length
 same-length c = search needs
@@ -65,7 +70,7 @@ same-length-4 c = search needs
 
 returns : tie.Need-returns
 returns c =
-    let h = c .before .before .before .before .before .before .before .before .decide .ensures in
+    let h = c .before .before .before .before .before .before .before .before .decide .ensures (c .before .before .before .before .before .before .before .before .before .before .before .before .before .before .before .before .before .before .before .before .before .before .before .before .before .args .d) (seen (c .before .before .before .before .before .before .before .before .before .before .before .before .before .before .before .before .before .before)) in
     (h .0, handed-by _ _ (c .before .before .before .before .before .before .before .before .before .before .before .before .before .before .lent-of .ensures) (c .before .before .before .before .before .before .before .before .before .before .before .before .before .lent-of2 .ensures) (c .before .before .before .before .before .before .before .before .before .before .before .before .before .before .before .quarters-of .ensures _ _) (h .1))
 
 pub lend-call-spec : {M : Type 1} → statement M

@@ -5,7 +5,7 @@ use Prim.Native.Nat.{ℕ, _+_, _*_}
 use lib.Dec.{leb, ltb}
 use Rattle.quantity.specs.Lists.{fold}
 use Rattle.state.specs.Change.{submitted}
-use Rattle.state.specs.Desk.{versionsIn}
+use Rattle.state.specs.Desk.{versionsIn, withFrame}
 use Rattle.state.specs.Point.{isActive, sinceOf}
 use Rattle.state.specs.Version.{newVersion}
 use Rattle.state.specs.declared.PointState.{PointState}
@@ -13,6 +13,7 @@ use Rattle.model.specs.Causes.{firstOf, isAbsent, logFull}
 use Rattle.model.specs.Log.{due}
 use Rattle.model.specs.declared.Cause.the-variants.{NotOpen, WrongLength, BadField, PastDay, AfterCorrection, NotActive, TooEarly, VersionPresent, VersionBelow, NoRow, NoLogRow}
 use Rattle.checks.proofs.Deciding.{checked}
+use Rattle.submit.proofs.Submitting.{length-held}
 use borrow.Author.Needs.{needs}
 use Rattle.submit.proofs.call.submit_ruling.Statement.{statement}
 use Rattle.submit.proofs.call.submit_ruling.Tie as tie
@@ -63,26 +64,26 @@ or-if-requires-9 : tie.Need-or-if-requires-9
 or-if-requires-9 c κs = search needs
 
 no-row-requires : tie.Need-no-row-requires
-no-row-requires c κs = let s = c .before .before .before .before .before .before .before .before .before .before .before .before .before .before .before .before .before .before .before .before .before .before .before .before .before .before in (s .pre .0 .count, s .pre .0 .most)
+no-row-requires c κs = c .before .before .before .before .before .before .before .before .before .before .before .before .before .before .before .before .before .before .before .before .before .before .before .before .before .pre .0
 
 or-if-requires-10 : tie.Need-or-if-requires-10
 or-if-requires-10 c κs = search needs
 
 log-full-requires : tie.Need-log-full-requires
-log-full-requires c κs = c .before .before .before .before .before .before .before .before .before .before .before .before .before .before .before .before .before .before .before .before .before .before .before .before .before .before .before .before .pre .0 .used
+log-full-requires c κs = c .before .before .before .before .before .before .before .before .before .before .before .before .before .before .before .before .before .before .before .before .before .before .before .before .before .before .before .pre .1
 
 or-if-requires-11 : tie.Need-or-if-requires-11
 or-if-requires-11 c κs = search needs
 
 returns : tie.Need-returns
 unfolding firstOf fold
-returns c m =
-    let s = c .before .before .before .before .before .before .before .before .before .before .before .before .before .before .before .before .before .before .before .before .before .before .before .before .before .before .before .before .before .before in
+returns c e look due-is m =
+    let s = c .before .before .before .before .before .before .before .before .before .before .before .before .before .before .before .before .before .before .before .before .before .before .before .before .before .before .before .before .before in
     let a = s .args in
-    let d = a .d in
-    let f = s .pre .1 .0 .survey refl in
-    let n = s .pre .1 .1 .0 in
-    let here = s .pre .1 .0 .here in
+    let d = withFrame e (a .f) in
+    let f = look .survey refl in
+    let n = length-held d (s .pre .0 .0) (look .table) in
+    let here = look .here in
     let k0 = checked NotOpen (c .before .before .before .before .before .before .before .before .before .before .before .before .before .before .before .before .before .before .before .before .before .before .before .or-if .ensures) refl (ap not (c .before .before .before .before .before .before .before .before .before .before .before .before .before .before .before .before .before .before .before .before .before .before .before .before .is-open .ensures)) in
     let k1 = checked WrongLength (c .before .before .before .before .before .before .before .before .before .before .before .before .before .before .before .before .before .before .before .before .before .or-if2 .ensures) k0 (c .before .before .before .before .before .before .before .before .before .before .before .before .before .before .before .before .before .before .before .before .before .before .other-lengths .ensures m) in
     let k2 = checked BadField (c .before .before .before .before .before .before .before .before .before .before .before .before .before .before .before .before .before .before .before .or-if3 .ensures) k1 (ap not (c .before .before .before .before .before .before .before .before .before .before .before .before .before .before .before .before .before .before .before .before .submit-ok .ensures)) in
@@ -93,7 +94,7 @@ returns c m =
     let k7 = checked VersionPresent (c .before .before .before .before .before .before .before .or-if8 .ensures) k6 (ap not (c .before .before .before .before .before .before .before .before .absent .ensures ∙ ap isAbsent (f .held))) in
     let k8 = checked VersionBelow (c .before .before .before .before .or-if9 .ensures) k7 (ap (ltb (a .version .0)) (f .highest)) in
     let k9 = checked NoRow (c .before .before .or-if10 .ensures) k8 (c .before .before .before .no-row .ensures ∙ ap (λ (m : ℕ). leb 512 m || ltb (d .frame .opening .values) ((m + 1) * d .frame .opening .quarters)) (sym n)) in
-    checked NoLogRow (c .or-if11 .ensures) k9 (c .before .log-full .ensures ∙ ap (logFull (d .frame .used) (d .frame .opening .log)) (s .pre .1 .1 .1 ∙ ap (λ (m : ℕ). due (versionsIn d) (submitted (newVersion (d .frame .opening .first .0) m (a .point .0) (a .version .0) (a .day .0)) (versionsIn d)) (a .point .0) (a .day .0)) (sym n)))
+    checked NoLogRow (c .or-if11 .ensures) k9 (c .before .log-full .ensures ∙ ap (logFull (d .frame .used) (d .frame .opening .log)) (due-is ∙ ap (λ (m : ℕ). due (versionsIn d) (submitted (newVersion (d .frame .opening .first .0) m (a .point .0) (a .version .0) (a .day .0)) (versionsIn d)) (a .point .0) (a .day .0)) (sym n)))
 
 pub submit-ruling-spec : {M : Type 1} → statement M
 submit-ruling-spec =
