@@ -1,6 +1,6 @@
-//! A second implementation of document 01 and of document 02's calendar, statuses, notices and schedules, written from the
-//! papers alone, and what its comparison with the proved libraries needs. The comparisons themselves stand in `tests/`, one file
-//! for each thing compared.
+//! A second implementation of document 01 and of document 02's calendar, statuses, notices, schedules and walk over the
+//! versions, written from the papers alone, and what its comparison with the proved libraries needs. The comparisons
+//! themselves stand in `tests/`, one file for each thing compared.
 //!
 //! | module | what it is |
 //! |---|---|
@@ -9,6 +9,7 @@
 //! | `report` | second implementation: the report on a book and schedules that may hold anything |
 //! | `call` | the eleven calls and their fields |
 //! | `desk`, `worked` | second implementation: the plain desk, and what its list of calls says |
+//! | `walk` | second implementation: one walk over a version table that may hold anything |
 //! | `replay` | second implementation: a whole file through the plain desk |
 //! | `calendar` | second implementation: working days, and dates as day numbers |
 //! | `program` | second implementation: what the desk program prints; and a run of the program |
@@ -48,4 +49,5 @@ pub mod report;
 pub mod schedules;
 pub mod script;
 pub mod tally;
+pub mod walk;
 pub mod worked;

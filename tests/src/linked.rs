@@ -27,6 +27,17 @@ extern "C" {
         out: *mut u64,
         out_len: usize,
     ) -> u64;
+
+    fn drive_walk(
+        table: *const u64,
+        table_len: usize,
+        count: u64,
+        rows: u64,
+        point: u64,
+        version: u64,
+        out: *mut u64,
+        out_len: usize,
+    );
 }
 
 /// `emorizugu_file_refusal`.
@@ -176,4 +187,12 @@ pub fn script(script: &[u64], stores: [&mut [u64]; 4], out: &mut [u64]) -> u64 {
             out.len(),
         )
     }
+}
+
+/// `drive_walk`; what is asked are count, rows, point and version.
+pub fn walk(table: &[u64], asked: [u64; 4], out: &mut [u64]) {
+    let [count, rows, point, version] = asked;
+    let (lent, length) = (out.as_mut_ptr(), out.len());
+    let table = (table.as_ptr(), table.len());
+    unsafe { drive_walk(table.0, table.1, count, rows, point, version, lent, length) }
 }

@@ -19,6 +19,8 @@ use state::ShortDay;
 use state::ShortPoint;
 use state::Status;
 use state::VersionRecord;
+ghost use mathlib.Core.Path.{_≡_};
+ghost use Rattle.damage.specs.Record.{statusBy, recordBy};
 
 // How many values two bytes have.
 const SHORT: u64 = BYTE * BYTE;
@@ -99,7 +101,10 @@ fn with_point(d: Desk, place: u64, state: PointState) -> Desk {
     r
 }
 
-fn status_of(number: u64) -> Status {
+// A number that no status has is taken for check data.
+fn status_of(number: u64) -> Status
+    ensures { λ r. ⌜ r ≡ statusBy number ⌝ }
+{
     match number {
         2 => Status::Settlement,
         3 => Status::Settled,
@@ -109,17 +114,24 @@ fn status_of(number: u64) -> Status {
     }
 }
 
+// A version's record of four numbers; of a point and a row it has the two low bytes.
+pub fn record_of(version: u64, point: u64, row: u64, status: u64) -> VersionRecord
+    ensures { λ r. ⌜ r ≡ recordBy version point row status ⌝ }
+{
+    VersionRecord {
+        version: Version(version),
+        point: ShortPoint((point % SHORT) as u16),
+        row: Row((row % SHORT) as u16),
+        status: status_of(status),
+    }
+}
+
 // A version.
 fn with_version(d: Desk, place: u64, version: u64, point: u64, row: u64, status: u64) -> Desk {
     let mut r = d;
     if place < VERSIONS {
         let i = place as usize;
-        let v = VersionRecord {
-            version: Version(version),
-            point: ShortPoint((point % SHORT) as u16),
-            row: Row((row % SHORT) as u16),
-            status: status_of(status),
-        };
+        let v = record_of(version, point, row, status);
         r.versions[i] = v;
     }
     r

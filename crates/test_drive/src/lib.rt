@@ -1,6 +1,7 @@
-// For tests and benchmarks only: the row adder, and scripts of calls, with damage to the state and the stores.
+// For tests and benchmarks only: the row adder, scripts of calls, with damage to the state and the stores, and the walks over a version table.
 mod row;
 mod script;
+mod walk;
 
 // The lengths of the buffers, and the next place of the output.
 pub struct Room {
