@@ -44,11 +44,11 @@ pub record Walked (table : List VersionRecord) (count point version : ℕ) (s : 
 
 -- the records read by a look of a call that asks for versions, after the calls of a list: "from a fresh desk on one for each version held", which are as
 -- many as submissions were accepted before
-pub record ReadsEach (s : Stores) (l : List Lent) (k : Look) : Type 0 where
+pub record ReadsEach (l : List Lent) (k : Look) : Type 0 where
   pub each : k .survey .read ≡ length (versionsOf (plainEnd [] (map told l)))
   pub accepted : k .survey .read ≡ submissions (plainEnd [] (map told l))
   pub most : k .survey .read ≤ 512
 
 -- on every list under demand 3's premises
 abbrev pub ReadsHeld : Type 0
-ReadsHeld = (s : Stores) (l : List Lent) → Chained (fresh s) l → (a : Asks) (k : Look) → a .versions ≡ true → Looked (end (fresh s) l .desk) a k → ReadsEach s l k
+ReadsHeld = (s : Stores) (l : List Lent) → Chained (fresh s) l → (a : Asks) (k : Look) → a .versions ≡ true → Looked (end (fresh s) l .desk) a k → ReadsEach l k
