@@ -41,8 +41,9 @@ static const struct {
     {"submit", 7, {4, 1, 8, 11, QUARTERS, 2000, 4000}},
     {"notice", 5, {5, 1, 8, 1, 20}},
     {"assign", 4, {6, 1, 9, 20}},
-    {"settle", 3, {7, 1, 31}},
-    {"refused", 3, {7, 1, 31}},
+    {"close", 3, {7, 1, 31}},
+    {"issue", 3, {8, 1, 31}},
+    {"refused", 3, {8, 1, 31}},
 };
 
 static uint8_t file[4096];

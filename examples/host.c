@@ -1,6 +1,6 @@
 /*
- * A host program: it says whether a message file is whole, which version of each point it selects in each run and whether
- * that version is settled, and prints a balance group's month from a book.
+ * A host program: it says whether a message file is whole, whether each run is closed and issued, which version of each point
+ * it selects in each run and whether that version is settled, and prints a balance group's month from a book.
  *
  *     host MESSAGE-FILE BOOK-FILE QUARTERS RUN GROUP
  *
@@ -29,7 +29,7 @@ static const char *cause(uint64_t refusal) {
     case EMORIZUGU_NOT_SHORTEST:
         return "a number is not in its shortest form, or its ninth byte has the top bit set";
     case EMORIZUGU_BAD_KIND:
-        return "a call's kind is not 1 to 7";
+        return "a call's kind is not 1 to 8";
     case EMORIZUGU_TOO_LARGE:
         return "a submission counts more than 2980 energies";
     default:
@@ -70,12 +70,24 @@ static void print_points(const uint64_t *points) {
     }
 }
 
-/* Runs a message file through a fresh desk and prints what both runs select of each point. 0 where there is no memory. */
+/* Prints whether a run is closed and whether it is issued. */
+static void print_run(int run, uint64_t closed, uint64_t issued) {
+    printf("run %d: %s, %s\n", run, closed ? "closed" : "not closed", issued ? "issued" : "not issued");
+}
+
+/*
+ * Runs a message file through a fresh desk and prints, if it was opened, how far both runs are and what they select of each
+ * point. 0 where there is no memory.
+ */
 static int print_selections(const struct file *message) {
     static struct emorizugu_lent r;
     int lent = lend("host", &r, message);
     if (lent) {
         emorizugu_run(&r);
+        if (r.summary[EMORIZUGU_OPENED] != 0) {
+            print_run(1, r.summary[EMORIZUGU_CLOSED_1], r.summary[EMORIZUGU_ISSUED_1]);
+            print_run(2, r.summary[EMORIZUGU_CLOSED_2], r.summary[EMORIZUGU_ISSUED_2]);
+        }
         print_points(r.points);
     }
     release(&r);

@@ -2,11 +2,12 @@
 """Writes the files that the examples are run on, to the folder given or to its own.
 
 Message files: `example.msg` is the one that document 01 writes out, `month.msg` its sample month, packed from
-`month.calls`; `corrected.msg` has corrections with run 1 settled, `settled.msg` the same with both runs settled; the others
-are empty or damaged, and each is refused for one cause. Books and schedules, all of two quarter hours:
-`month.book` has the figures of document 01's sample month, `edges.book` figures at both ends of the 64-bit range, and
-`short.book` lacks its last byte; `month.lodged` has what some groups of the sample month planned, `edges.lodged`
-numbers beside those of `edges.book`, and `short.lodged` lacks its last byte. `july.csv` has the series of `july.calls`.
+`month.calls`; `corrected.msg` has corrections with run 1 closed and issued, `settled.msg` the same with both runs,
+`older.msg` with both closed alone, as older files have them; the others are empty or damaged, and each of these is refused
+for one cause. Books and schedules, all of two quarter hours: `month.book` has the figures of document 01's sample month,
+`edges.book` figures at both ends of the 64-bit range, and `short.book` lacks its last byte; `month.lodged` has what some
+groups of the sample month planned, `edges.lodged` numbers beside those of `edges.book`, and `short.lodged` lacks its last
+byte. `july.csv` has the series of `july.calls`.
 """
 
 import pathlib
@@ -28,33 +29,37 @@ ACTIVATE = bytes.fromhex("02 01 01 01 00 00")
 SUBMIT = bytes.fromhex("04 01 07 02 01 D0 0F")
 EXAMPLE = OPEN + ACTIVATE + SUBMIT + SUBMIT
 
-# Run 1 settled. Point 1 has a version of run 1, point 2 one of each run, point 3 one of run 2, point 4 check data.
-CORRECTED = b"".join(
+# Point 1 has a version of run 1, point 2 one of each run, point 3 one of run 2, point 4 check data.
+CONFIRMED = b"".join(
     (
         OPEN,
         ACTIVATE,
         bytes.fromhex("02 02 02 01 05 00  02 03 03 01 00 00  02 04 05 01 00 00"),
         SUBMIT,
         bytes.fromhex("04 02 01 02 01 14  04 02 02 0B 01 28  04 03 01 0B 01 0A  04 04 01 0B 01 0C"),
-        bytes.fromhex("05 02 02 01 1F  05 03 01 01 1F  07 01 20"),
+        bytes.fromhex("05 02 02 01 1F  05 03 01 01 1F"),
     )
 )
+# Run 1 closed and issued.
+CORRECTED = CONFIRMED + bytes.fromhex("07 01 20  08 01 20")
 
 MESSAGES = {
     "example.msg": EXAMPLE,
     "month.msg": packed("month.calls"),
     "corrected.msg": CORRECTED,
-    # Run 2 settled.
-    "settled.msg": CORRECTED + bytes.fromhex("07 02 97 01"),
+    # Run 2 closed and issued.
+    "settled.msg": CORRECTED + bytes.fromhex("07 02 97 01  08 02 97 01"),
+    # Both runs closed, and none issued.
+    "older.msg": CONFIRMED + bytes.fromhex("07 01 20  07 02 97 01"),
     "empty.msg": b"",
     # 31: the second submission lacks its last byte.
     "cut.msg": EXAMPLE[:-1],
     # 32: 0 in two bytes.
     "longer.msg": bytes.fromhex("80 00"),
-    # 32: after the open a settle whose run has ten bytes.
+    # 32: after the open a close whose run has ten bytes.
     "ninth.msg": OPEN + b"\x07" + 9 * b"\xff" + b"\x01\x1f",
-    # 33: after the activation a call of kind 8.
-    "kind.msg": OPEN + ACTIVATE + bytes.fromhex("08 01 1F"),
+    # 33: after the activation a call of kind 10.
+    "kind.msg": OPEN + ACTIVATE + bytes.fromhex("0A 01 1F"),
     # 34: a submission of 2,981 energies, none of which follows.
     "count.msg": OPEN + ACTIVATE + bytes.fromhex("04 01 07 02 A5 17"),
 }

@@ -25,7 +25,7 @@ extern "C" {
 #endif
 
 /* The version of these entries. It rises with every change that a host notices; emorizugu_version() is the library's. */
-#define EMORIZUGU_VERSION 6
+#define EMORIZUGU_VERSION 7
 
 /* Answers: accepted, and the causes of a refusal in the order in which they are checked. docs/CAUSES.md has them in words. */
 #define EMORIZUGU_ACCEPTED         0
@@ -49,12 +49,14 @@ extern "C" {
 #define EMORIZUGU_NOT_CHECK_DATA   25  /* notice: the version is no check data */
 #define EMORIZUGU_NO_ROW           16  /* submit: no row of values left, or 512 versions held */
 #define EMORIZUGU_NO_LOG_ROW       17  /* no log row left */
-#define EMORIZUGU_SETTLE_TOO_EARLY 27  /* settle: the day does not lie behind the run's deadline */
-#define EMORIZUGU_ALREADY_SETTLED  28  /* settle: the run is settled */
-#define EMORIZUGU_FIRST_RUN_OPEN   29  /* settle of run 2: run 1 is not settled */
+#define EMORIZUGU_CLOSE_TOO_EARLY  27  /* close: the day does not lie behind the run's deadline */
+#define EMORIZUGU_ALREADY_CLOSED   28  /* close: the run is closed */
+#define EMORIZUGU_FIRST_RUN_OPEN   29  /* close of run 2: run 1 is not closed */
+#define EMORIZUGU_NOT_CLOSED       38  /* issue: the run is not closed */
+#define EMORIZUGU_ALREADY_ISSUED   39  /* issue: the run is issued */
 #define EMORIZUGU_CUT              31  /* file: it ends inside a call */
 #define EMORIZUGU_NOT_SHORTEST     32  /* file: a number is not in its shortest form */
-#define EMORIZUGU_BAD_KIND         33  /* file: a call's kind is not 1 to 7 */
+#define EMORIZUGU_BAD_KIND         33  /* file: a call's kind is not 1 to 8 */
 #define EMORIZUGU_TOO_LARGE        34  /* file: more than 2,980 energies; write: a number that a file cannot carry */
 #define EMORIZUGU_NO_ROOM          35  /* file: a lent buffer, output or answers too short */
 #define EMORIZUGU_NO_DATE          36  /* calendar: no such month or date of 2020 to 2059, or no number from 0 to 400 */
@@ -95,15 +97,17 @@ enum {
     EMORIZUGU_REFUSED,   /* calls refused */
     EMORIZUGU_FIRST,     /* the number of the first refused call, counted from 1; 0 where there is none */
     EMORIZUGU_DAY,       /* the desk's day */
-    EMORIZUGU_SETTLED_1, /* 1 where run 1 is settled, else 0 */
-    EMORIZUGU_SETTLED_2, /* 1 where run 2 is settled, else 0 */
+    EMORIZUGU_CLOSED_1,  /* 1 where run 1 is closed, else 0 */
+    EMORIZUGU_CLOSED_2,  /* 1 where run 2 is closed, else 0 */
+    EMORIZUGU_ISSUED_1,  /* 1 where run 1 is issued, so that what it selects is settled, else 0 */
+    EMORIZUGU_ISSUED_2,  /* 1 where run 2 is issued, so that what it has of its own is settled, else 0 */
     EMORIZUGU_SUMMARY    /* how many places these are */
 };
 
 /*
  * The places of a point, and of all points: point p begins at (p - 1) x EMORIZUGU_POINT. For each run it has the version
- * that the run selects and that version's status: 3 and 5 are settled. Run 2's is its own where the status is 4 or 5; else
- * it is run 1's, version and status.
+ * that the run selects and that version's status: 3 and 5 are settled, which comes by the run's issue; its close leaves 2
+ * and 4. Run 2's is its own where the status is 4 or 5; else it is run 1's, version and status.
  */
 enum {
     EMORIZUGU_ACTIVE,     /* 1 where it is active, else 0 */
@@ -194,7 +198,8 @@ uint64_t emorizugu_shortfall(const uint8_t *book, size_t length, const uint8_t *
 
 /*
  * A whole message file through a fresh desk: call after call is read and handed to the desk, until the file ends, is
- * refused, or the answers are full.
+ * refused, or the answers are full. Kind 7 is close and kind 8 issue, both with run and day. An older file's kind 7, which
+ * was settle, is read as close: the run is closed then and not issued, and its versions keep 2 and 4.
  *
  * values, book, log, schedules: the desk's stores, of any lengths and with anything in them. The opening takes values and
  * log as they are long, of the book the first 162 x Q figures and of the schedules the first 64 x Q energies; a Q that
@@ -207,7 +212,7 @@ uint64_t emorizugu_shortfall(const uint8_t *book, size_t length, const uint8_t *
  * each run selects and its status. versions: EMORIZUGU_VERSIONS_LENGTH, a row a version.
  *
  * 0 where the whole file was run, else the number of the reader's refusal, 31 to 35, or 35 where the answers are full
- * and bytes are left (the summary then has as many calls answered as there are answers). 2 where summary (10), points
+ * and bytes are left (the summary then has as many calls answered as there are answers). 2 where summary (12), points
  * (2,304) or versions (2,048) have fewer places; nothing is done then. A file that was run may have calls that were
  * refused: the summary says how many, and which was the first.
  */

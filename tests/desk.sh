@@ -77,12 +77,40 @@ refusals() {
         'submit point=1 version=2 day=1 energies=1,2' 'notice point=1 version=2 verdict=positive day=12'
     refusal 'notice point 1 version 2: refused, 25: version 2 is no check data: line 3 submitted it on day 2, and the first delivery lasts to day 10' \
         'nothing: it counts without a notice' "$active" "$sent" 'notice point=1 version=2 verdict=positive day=12'
-    refusal 'settle run 1: refused, 27: day 30 does not lie behind the clearing deadline, day 30 (line 1)' 'settle run 1 on day 31 or later' \
-        'settle run=1 day=30'
-    refusal 'settle run 1: refused, 28: line 2 settled run 1' 'nothing: it is settled once' 'settle run=settlement day=31' 'settle run=1 day=32'
-    refusal 'settle run 2: refused, 29: run 1 is not settled yet' 'put `settle run=1` in front of it' 'settle run=correction day=151'
-    refusal 'settle run 2: refused, 29: run 1 is not settled: its settlement in line 2 was refused, 27' 'correct line 2' 'settle run=1 day=30' \
-        'settle run=2 day=151'
+}
+
+# A run is closed behind its deadline, run 1 before run 2, and issued once it is closed; each once. 38 and 39 come behind 5, and issue asks nothing of the other run.
+runs_refused() {
+    local alone=1 first='close run=settlement day=31' second='close run=correction day=151' once='nothing: its statuses are sent once'
+    refusal 'close run 1: refused, 27: day 30 does not lie behind the clearing deadline, day 30 (line 1)' 'close run 1 on day 31 or later' \
+        'close run=1 day=30'
+    refusal 'close run 2: refused, 27: day 150 does not lie behind the correction deadline, day 150 (line 1)' 'close run 2 on day 151 or later' \
+        "$first" 'close run=2 day=150'
+    refusal 'close run 1: refused, 28: line 2 closed run 1' 'nothing: it is closed once; issue sends its statuses' "$first" 'close run=1 day=32'
+    refusal 'close run 1: refused, 28: line 2 closed run 1' 'nothing: it is closed once; issue sends its statuses' "$first" 'issue run=1 day=31' 'close run=1 day=31'
+    refusal 'close run 2: refused, 29: run 1 is not closed yet' 'put `close run=1` in front of it, on day 31 or later' "$second"
+    refusal 'close run 3: refused, 3: run 3 is not 1 to 2' 'correct what is named' 'close run=3 day=31'
+    refusal 'issue run 0: refused, 3: run 0 is not 1 to 2; day 401 is not 0 to 400' 'correct what is named' 'issue run=0 day=401'
+    refusal "issue run 1: refused, 5: day 30 lies before the desk's day 31, which line 2 set" 'give it day 31 or later; if day 31 is a mistake, correct line 2' \
+        "$first" 'issue run=1 day=30'
+    refusal "issue run 1: refused, 5: day 31 lies before the desk's day 32, which line 3 set" 'give it day 32 or later; if day 32 is a mistake, correct line 3' \
+        "$first" 'issue run=1 day=32' 'issue run=1 day=31'
+    refusal 'issue run 1: refused, 38: run 1 is not closed yet' 'put `close run=1` in front of it, on day 31 or later' 'issue run=settlement day=31'
+    refusal 'issue run 1: refused, 38: run 1 is not closed yet' 'put `close run=1` in front of it, both on day 31 or later' 'issue run=1 day=30'
+    refusal 'issue run 1: refused, 38: run 1 is not closed yet' 'put `close run=1` in front of it, on day 40 or later' \
+        'activate point=1 kind=exchange area=1 partner=outside day=40' 'issue run=1 day=50'
+    refusal 'issue run 2: refused, 38: run 2 is not closed yet' 'put `close run=2` in front of it, both on day 151 or later' "$first" 'issue run=correction day=150'
+    refusal 'issue run 2: refused, 38: run 2 is not closed yet' 'put `close run=1` and `close run=2` in front of it, on day 151 or later' 'issue run=2 day=151'
+    refusal 'issue run 2: refused, 38: run 2 is not closed yet' 'put `close run=1` and `close run=2` in front of it, all on day 151 or later' 'issue run=2 day=31'
+    refusal 'issue run 1: refused, 39: line 3 issued run 1' "$once" "$first" 'issue run=1 day=31' 'issue run=1 day=31'
+    refusal 'issue run 2: refused, 39: line 4 issued run 2' "$once" "$first" "$second" 'issue run=2 day=151' 'issue run=2 day=400'
+    alone=
+    refusal 'close run 2: refused, 29: run 1 is not closed: its close in line 2 was refused, 27' 'correct line 2' 'close run=1 day=30' "$second"
+    refusal 'issue run 1: refused, 38: run 1 is not closed: its close in line 2 was refused, 27' 'correct line 2' 'close run=1 day=30' 'issue run=1 day=31'
+    refusal 'issue run 2: refused, 38: run 2 is not closed: its close in line 2 was refused, 29' 'correct line 2' "$second" 'issue run=2 day=151'
+    # Issue of run 2 before issue of run 1, and both behind both closes.
+    has 'issue: run 2 before run 1' 0 '^5 calls, none refused; day 152; runs 1 and 2 issued; 2 quarter hours$' \
+        ./desk run <(printf '%s\n' "$OPEN" "$first" "$second" 'issue run=2 day=151' 'issue run=1 day=152')
 }
 
 # Where the month is known, each day in the words has its date.
@@ -99,8 +127,9 @@ dated_refusals() {
         'submit on day 2 (2026-08-04) or later' "$active" 'submit point=1 version=1 day=2026-08-03 energies=1,2'
     refusal 'notice point 1 version 2: refused, 25: version 2 is no check data: line 3 submitted it on day 2 (2026-08-04), and the first delivery lasts to day 10 (2026-08-14)' \
         'nothing: it counts without a notice' "$active" "$sent" 'notice point=1 version=2 verdict=positive day=2026-08-18'
-    refusal 'settle run 1: refused, 27: day 30 (2026-09-11) does not lie behind the clearing deadline, day 30 (2026-09-11, line 1)' \
-        'settle run 1 on day 31 (2026-09-14) or later' 'settle run=1 day=2026-09-11'
+    refusal 'close run 1: refused, 27: day 30 (2026-09-11) does not lie behind the clearing deadline, day 30 (2026-09-11, line 1)' \
+        'close run 1 on day 31 (2026-09-14) or later' 'close run=1 day=2026-09-11'
+    refusal 'issue run 1: refused, 38: run 1 is not closed yet' 'put `close run=1` in front of it, on day 31 (2026-09-14) or later' 'issue run=1 day=2026-09-15'
     refusal "notice point 1 version 2: refused, 37: version 2 lies below version 3, the point's highest, which line 4 submitted on day 12 (2026-08-18)" \
         'give the notice for version 3, the highest, or leave the call out' "$active" "$sent" 'submit point=1 version=3 day=2026-08-18 energies=1,2' \
         'notice point=1 version=2 verdict=positive day=2026-08-19'
@@ -126,14 +155,14 @@ notices() {
     refusal "$(below 2 4 12)" "$give" "$active" "$early" "$newer" "$notice=2 verdict=negative day=13"
     refusal "$(below 3 6 12)" "$give" "$active" "$early" "$older" "$notice=3 verdict=positive day=12" "$newer" "$notice=5 verdict=negative day=13" \
         "$notice=3 verdict=positive day=13"
-    refusal "$(below 2 5 32)" "$give" "$active" "$early" 'settle run=1 day=31' "${newer/day=12/day=32}" "$notice=2 verdict=positive day=150"
+    refusal "$(below 2 6 32)" "$give" "$active" "$early" 'close run=1 day=31' 'issue run=1 day=31' "${newer/day=12/day=32}" "$notice=2 verdict=positive day=150"
     refusal "$(below 3 5 32)" "$give" "$active" "$older" "$notice=3 verdict=positive day=31" "${newer/day=12/day=32}" "$notice=3 verdict=negative day=33"
     # The highest counts: of the first delivery, by its notice in each run, settled.
     refusal "$(below 2 4 10)" "$counts" "$active" "$early" "${newer/day=12/day=10}" "$notice=2 verdict=positive day=12"
     refusal "$(below 3 4 12)" "$counts" "$active" "$older" "$newer" "$notice=5 verdict=positive day=30" "$notice=3 verdict=positive day=30"
     refusal "$(below 3 4 12)" "$counts" "$active" "$older" "$newer" "$notice=5 verdict=positive day=31" "$notice=3 verdict=positive day=31"
-    refusal "$(below 3 5 12)" "$counts" "$active" "$early" "$older" "$newer" "$notice=5 verdict=positive day=30" 'settle run=1 day=31' \
-        "$notice=3 verdict=negative day=32"
+    refusal "$(below 3 5 12)" "$counts" "$active" "$early" "$older" "$newer" "$notice=5 verdict=positive day=30" 'close run=1 day=31' \
+        'issue run=1 day=31' "$notice=3 verdict=negative day=32"
     notices_in_order
     below_in_words
 }
@@ -187,7 +216,7 @@ line 13, call 13: notice point 1 version 2: refused, 37: version 2 lies below ve
     to mend it: leave the call out: version 30, the highest, counts already
 3 of these come from line 6: submit point 1 version 30; look there first
 
-13 calls, 4 refused; day 14; no run settled; 2 quarter hours
+13 calls, 4 refused; day 14; no run closed; 2 quarter hours
 the first refused: line 8, call 8
 
 1 selection changed
@@ -197,8 +226,8 @@ group               run 1, Wh               run 2, Wh          difference, Wh
     1                      31                      31                       0
     5                       3                       3                       0
 
-run 1 is not settled: 0 of 2 selected versions settled
-run 2 is not settled: 0 of 2 selected versions settled; 0 its own, 2 as run 1
+run 1 is not closed: 0 of 2 selected versions settled
+run 2 is not closed: 0 of 2 selected versions settled; 0 its own, 2 as run 1
 
 point  series                        settled  run 1               run 2     other versions
     1  exchange area 1 with outside  no       30 settlement data  as run 1  2 check data, 1 settlement data
@@ -240,10 +269,26 @@ typed_day() {
     ./desk run "$file" >"$work/out" 2>&1
     [ $? -eq 1 ] && grep -qxF "line 20, call 10: submit point 2 version 1: refused, 5: day 4 (2026-08-06) lies before the desk's day 47 (2026-10-06), which line 19 set" "$work/out" &&
         grep -qxF '    to mend it: give it day 47 (2026-10-06) or later; if day 47 is a mistake, correct line 19' "$work/out" &&
-        grep -qxF 'line 33, call 21: settle run 2: refused, 29: run 1 is not settled: its settlement in line 31 was refused, 5' "$work/out" &&
-        grep -qxF '12 of these come from line 19: submit point 1 version 1; look there first' "$work/out" &&
-        grep -qxF '21 calls, 12 refused; day 47 (2026-10-06); no run settled; 2976 quarter hours' "$work/out" &&
+        grep -qxF 'line 36, call 22: close run 2: refused, 29: run 1 is not closed: its close in line 33 was refused, 5' "$work/out" &&
+        grep -qxF 'line 37, call 23: issue run 2: refused, 38: run 2 is not closed: its close in line 36 was refused, 29' "$work/out" &&
+        grep -qxF '14 of these come from line 19: submit point 1 version 1; look there first' "$work/out" &&
+        grep -qxF '23 calls, 14 refused; day 47 (2026-10-06); no run closed; 2976 quarter hours' "$work/out" &&
         grep -qxF 'the first refused: line 20, call 10' "$work/out"
+}
+
+# July without its last line: run 2 is closed, and waits for its issue. README has these lines.
+waiting() {
+    local file line
+    file=$(sed '$d' examples/july.calls | text waiting.calls)
+    ./desk run "$file" >"$work/out" 2>&1 || return 1
+    for line in '22 calls, none refused; day 151 (2027-03-10); run 1 issued; run 2 closed, not issued; 2976 quarter hours' \
+        'run 2 is closed, not issued: 6 of 7 selected versions settled; 1 its own, 6 as run 1' \
+        '    closed on day 151 (2027-03-10); to send its statuses: issue run=2 day=2027-03-10, or a later day'; do
+        if ! grep -qxF "$line" "$work/out" || ! grep -qxF "    $line" README.md; then echo "$line" && return 1; fi
+    done
+    # The line that it names, put behind the others.
+    { cat "$file" && sed -n 's/.*to send its statuses: \(.*\), or a later day$/\1/p' "$work/out"; } >"$work/waited.calls"
+    ./desk run "$work/waited.calls" | grep -q '^23 calls, none refused; day 151 (2027-03-10); runs 1 and 2 issued; '
 }
 
 # The 513th version.
@@ -256,19 +301,19 @@ too_many() {
 
 not_open() {
     local file
-    file=$(printf 'open quarters=0 first=3 clearing=2 correction=9 others=65\nsettle run=1 day=31\n' | text closed.calls)
+    file=$(printf 'open quarters=0 first=3 clearing=2 correction=9 others=65\nclose run=1 day=31\n' | text closed.calls)
     has 'an opening that is refused' 1 'refused, 4: quarters 0 is not 1 to 2980; deadlines 3, 2, 9 do not rise from 1 to 399; the delta group of T is 65' \
         ./desk run "$file"
-    has 'a desk that is not open' 1 'line 2, call 2: settle run 1: refused, 1: the desk is not open: the opening of line 1 was refused, 4' \
+    has 'a desk that is not open' 1 'line 2, call 2: close run 1: refused, 1: the desk is not open: the opening of line 1 was refused, 4' \
         ./desk run "$file"
-    has 'no opening at all' 1 'refused, 1: the desk is not open: no opening stands in front' ./desk run "$(echo 'settle run=1 day=31' | text none.calls)"
+    has 'no opening at all' 1 'refused, 1: the desk is not open: no opening stands in front' ./desk run "$(echo 'issue run=1 day=31' | text none.calls)"
 }
 
 # ---- the sample month, as text and as a message file
 
 sample() {
     expect 'run: the sample month' 0 ./desk run examples/month.calls <<END
-13 calls, none refused; day 2; no run settled; 2 quarter hours
+13 calls, none refused; day 2; no run closed; 2 quarter hours
 
 group               run 1, Wh               run 2, Wh          difference, Wh
     1                  18 000                  18 000                       0
@@ -277,8 +322,8 @@ group               run 1, Wh               run 2, Wh          difference, Wh
     5                  95 000                  95 000                       0
     6                  16 700                  16 700                       0
 
-run 1 is not settled: 0 of 6 selected versions settled
-run 2 is not settled: 0 of 6 selected versions settled; 0 its own, 6 as run 1
+run 1 is not closed: 0 of 6 selected versions settled
+run 2 is not closed: 0 of 6 selected versions settled; 0 its own, 6 as run 1
 
 point  series                        settled  run 1              run 2     other versions
     1  exchange area 1 with outside  no       1 settlement data  as run 1
@@ -321,7 +366,8 @@ submit point=1 version=5 day=2 energies=10,20
 submit point=1 version=7 day=9 energies=11,21
 submit point=2 version=11 day=11 energies=3,4
 notice point=2 version=11 verdict=positive day=31
-settle run=1 day=31
+close run=1 day=31
+issue run=1 day=31
 END
     )
     expect 'points: one order, statuses, what counts, what is settled' 0 ./desk points "$file" <<END
@@ -340,7 +386,7 @@ point,kind,area,partner,since,since_date,version,status,run_1,run_2,settled
 END
     dated_lists "$file"
     expect 'run: changes of selections stand in the summary' 0 ./desk run "$file" <<END
-9 calls, none refused; day 31; run 1 settled; 2 quarter hours
+10 calls, none refused; day 31; run 1 issued; run 2 not closed; 2 quarter hours
 
 2 selections changed
     day 9: point 1, run 1: version 7 in the place of 5
@@ -350,8 +396,9 @@ group               run 1, Wh               run 2, Wh          difference, Wh
     1                      29                      25                      -4
     5                       3                       7                       4
 
-run 1 is settled: 2 of 2 selected versions settled
-run 2 is not settled: 1 of 2 selected versions settled; 1 its own, 1 as run 1
+run 1 is issued: 2 of 2 selected versions settled
+    closed on day 31, issued on day 31
+run 2 is not closed: 1 of 2 selected versions settled; 1 its own, 1 as run 1
 
 point  series                        settled  run 1       run 2                          other versions
     1  exchange area 1 with outside  run 1    7 settled   as run 1                       5 settlement data
@@ -363,7 +410,7 @@ END
     holds 'page: changes of selections' grep -q '<li>day 31: point 2, run 2: version 11 in the place of 10, which run 1 selects</li>' <(./desk page "$file")
 }
 
-# What each run selects, with its status, before and after each settlement: `desk run`, `desk points`, the page.
+# What each run selects, with its status, before and after each close and issue: `desk run`, `desk points`, `desk runs`, the page.
 # Point 1 has long version numbers, point 2 a correction, point 3 a correction alone, point 4 no version, point 5 check data.
 settled() {
     local file
@@ -385,9 +432,27 @@ notice point=2 version=2 verdict=positive day=31
 notice point=3 version=7 verdict=positive day=40
 END
     )
-    expect 'settled: no run' 0 selected_of "$file" <<END
-run 1 is not settled: 0 of 2 selected versions settled; 3 points have none
-run 2 is not settled: 0 of 3 selected versions settled; 2 its own, 1 as run 1; 2 points have none
+    { cat "$file" && echo 'close run=1 day=40'; } >"$work/morning.calls"
+    { cat "$work/morning.calls" && echo 'issue run=1 day=41'; } >"$work/first.calls"
+    { cat "$work/first.calls" && echo 'close run=2 day=151'; } >"$work/second.calls"
+    { cat "$work/second.calls" && echo 'issue run=2 day=151'; } >"$work/settled.calls"
+    { cat "$work/morning.calls" && printf '%s\n' 'close run=2 day=151' 'issue run=2 day=152'; } >"$work/turned.calls"
+    settled_in_turn
+    settled_lists
+    for file in unsettled morning first second settled turned; do
+        holds "settled: the lists of $file" python3 tests/forms.py ./desk "$work/$file.calls"
+        page_of "$file" "$work/$file.calls"
+        page_script "$file" "$work/$file.calls"
+    done
+    settled_pages
+    settled_edges
+    settled_files
+}
+
+settled_in_turn() {
+    expect 'settled: no run' 0 selected_of "$work/unsettled.calls" <<END
+run 1 is not closed: 0 of 2 selected versions settled; 3 points have none
+run 2 is not closed: 0 of 3 selected versions settled; 2 its own, 1 as run 1; 2 points have none
 
 point  series                         settled  run 1                           run 2                         other versions
     1  exchange area 1 with outside   no       20260804120001 settlement data  as run 1                      check data (1), settlement data (1)
@@ -396,10 +461,19 @@ point  series                         settled  run 1                           r
     4  delta-transfer area 16         -        none                            none
     5  exchange area 16 with area 15  -        none                            none                          9 check data
 END
-    { cat "$file" && echo 'settle run=1 day=40'; } >"$work/first.calls"
+    sed 1,3d "$work/out" >"$work/table"
+    # Close changes no status.
+    expect 'closed: run 1' 0 selected_of "$work/morning.calls" <<END
+run 1 is closed, not issued: 0 of 2 selected versions settled; 3 points have none
+    closed on day 40; to send its statuses: issue run=1 day=40, or a later day
+run 2 is not closed: 0 of 3 selected versions settled; 2 its own, 1 as run 1; 2 points have none
+
+$(cat "$work/table")
+END
     expect 'settled: run 1' 0 selected_of "$work/first.calls" <<END
-run 1 is settled: 2 of 2 selected versions settled; 3 points have none
-run 2 is not settled: 1 of 3 selected versions settled; 2 its own, 1 as run 1; 2 points have none
+run 1 is issued: 2 of 2 selected versions settled; 3 points have none
+    closed on day 40, issued on day 41
+run 2 is not closed: 1 of 3 selected versions settled; 2 its own, 1 as run 1; 2 points have none
 
 point  series                         settled  run 1                   run 2                         other versions
     1  exchange area 1 with outside   run 1    20260804120001 settled  as run 1                      check data (1), settlement data (1)
@@ -408,10 +482,20 @@ point  series                         settled  run 1                   run 2    
     4  delta-transfer area 16         -        none                    none
     5  exchange area 16 with area 15  -        none                    none                          9 check data
 END
-    { cat "$work/first.calls" && echo 'settle run=2 day=151'; } >"$work/settled.calls"
+    sed 1,4d "$work/out" >"$work/table"
+    expect 'settled: run 1, and run 2 closed' 0 selected_of "$work/second.calls" <<END
+run 1 is issued: 2 of 2 selected versions settled; 3 points have none
+    closed on day 40, issued on day 41
+run 2 is closed, not issued: 1 of 3 selected versions settled; 2 its own, 1 as run 1; 2 points have none
+    closed on day 151; to send its statuses: issue run=2 day=151, or a later day
+
+$(cat "$work/table")
+END
     expect 'settled: both runs' 0 selected_of "$work/settled.calls" <<END
-run 1 is settled: 2 of 2 selected versions settled; 3 points have none
-run 2 is settled: 3 of 3 selected versions settled; 2 its own, 1 as run 1; 2 points have none
+run 1 is issued: 2 of 2 selected versions settled; 3 points have none
+    closed on day 40, issued on day 41
+run 2 is issued: 3 of 3 selected versions settled; 2 its own, 1 as run 1; 2 points have none
+    closed on day 151, issued on day 151
 
 point  series                         settled  run 1                   run 2                 other versions
     1  exchange area 1 with outside   both     20260804120001 settled  as run 1              check data (1), settlement data (1)
@@ -420,6 +504,36 @@ point  series                         settled  run 1                   run 2    
     4  delta-transfer area 16         -        none                    none
     5  exchange area 16 with area 15  -        none                    none                  9 check data
 END
+    # What run 2 has from run 1 waits for run 1's issue.
+    expect 'settled: run 2 before run 1' 0 selected_of "$work/turned.calls" <<END
+run 1 is closed, not issued: 0 of 2 selected versions settled; 3 points have none
+    closed on day 40; to send its statuses: issue run=1 day=152, or a later day
+run 2 is issued: 2 of 3 selected versions settled; 2 its own, 1 as run 1; 2 points have none
+    closed on day 151, issued on day 152
+
+point  series                         settled  run 1                           run 2                 other versions
+    1  exchange area 1 with outside   no       20260804120001 settlement data  as run 1              check data (1), settlement data (1)
+    2  group-sum area 1 group 5       run 2    1 settlement data               2 correction settled
+    3  operator-sum group 6           run 2    none                            7 correction settled
+    4  delta-transfer area 16         -        none                            none
+    5  exchange area 16 with area 15  -        none                            none                  9 check data
+END
+}
+
+# headed NAME WORDS: the first line of a month says so of its runs.
+headed() {
+    has "$1: $2" 0 "^[0-9]+ calls, none refused; day [0-9]+; $2; 2 quarter hours\$" ./desk run "$work/$1.calls"
+}
+
+settled_lists() {
+    headed unsettled 'no run closed'
+    headed morning 'run 1 closed, not issued; run 2 not closed'
+    headed first 'run 1 issued; run 2 not closed'
+    headed second 'run 1 issued; run 2 closed, not issued'
+    headed settled 'runs 1 and 2 issued'
+    headed turned 'run 1 closed, not issued; run 2 issued'
+    { cat "$work/morning.calls" && echo 'close run=2 day=151'; } >"$work/both.calls"
+    headed both 'runs 1 and 2 closed, not issued'
     expect 'settled: points as json' 0 ./desk points "$work/settled.calls" --json <<END
 [
 {"point":1,"kind":"exchange","area":1,"partner":0,"since":0,"since_date":null,"version":20260804120000,"status":"settlement data","run_1":"no","run_2":"no","settled":"no"},
@@ -432,38 +546,126 @@ END
 {"point":5,"kind":"exchange","area":16,"partner":15,"since":0,"since_date":null,"version":9,"status":"check data","run_1":"no","run_2":"no","settled":"no"}
 ]
 END
-    for file in unsettled first settled; do
-        holds "settled: the lists of $file" python3 tests/forms.py ./desk "$work/$file.calls"
-        page_of "$file" "$work/$file.calls"
-        page_script "$file" "$work/$file.calls"
+    expect 'runs: no run closed' 0 ./desk runs "$work/unsettled.calls" --csv <<END
+run,closed,closed_day,closed_date,issued,issued_day,issued_date,selected,settled
+1,no,,,no,,,2,0
+2,no,,,no,,,3,0
+END
+    expect 'runs: run 1 closed' 0 ./desk runs "$work/morning.calls" --json <<END
+[
+{"run":1,"closed":"yes","closed_day":40,"closed_date":null,"issued":"no","issued_day":null,"issued_date":null,"selected":2,"settled":0},
+{"run":2,"closed":"no","closed_day":null,"closed_date":null,"issued":"no","issued_day":null,"issued_date":null,"selected":3,"settled":0}
+]
+END
+    expect 'runs: run 2 closed, with dates' 0 ./desk runs "$work/second.calls" --month 2026-07 <<END
+run  closed  closed day  closed date  issued  issued day  issued date  selected  settled
+  1  yes             40  2026-09-25   yes             41  2026-09-28          2        2
+  2  yes            151  2027-03-10   no                                      3        1
+END
+    expect 'runs: one run, issued before the other' 0 ./desk runs "$work/turned.calls" --run 2 --month 2026-07 --csv <<END
+run,closed,closed_day,closed_date,issued,issued_day,issued_date,selected,settled
+2,yes,151,2027-03-10,yes,152,2027-03-11,3,2
+END
+    expect 'runs: both issued, a day without a date' 0 ./desk runs "$work/settled.calls" --month 2059-10 --json <<END
+[
+{"run":1,"closed":"yes","closed_day":40,"closed_date":null,"issued":"yes","issued_day":41,"issued_date":null,"selected":2,"settled":2},
+{"run":2,"closed":"yes","closed_day":151,"closed_date":null,"issued":"yes","issued_day":151,"issued_date":null,"selected":3,"settled":3}
+]
+END
+}
+
+settled_pages() {
+    holds 'settled: the runs on the page' sh -c "grep -qxF '<p>run 1 is issued: 2 of 2 selected versions settled; 3 points have none<br><span class=\"faint\">closed on day 40, issued on day 41</span></p>' '$work/second.html' &&
+        grep -qxF '<p>run 2 is closed, not issued: 1 of 3 selected versions settled; 2 its own, 1 as run 1; 2 points have none<br><span class=\"faint\">closed on day 151; to send its statuses: issue run=2 day=151, or a later day</span></p>' '$work/second.html' &&
+        grep -qxF '<p>run 2 is not closed: 0 of 3 selected versions settled; 2 its own, 1 as run 1; 2 points have none</p>' '$work/morning.html' &&
+        grep -qF '; run 1 issued; run 2 closed, not issued; ' '$work/second.html'"
+    has 'settled: what is next on the page, with a date' 0 'to send its statuses: issue run=2 day=2027-03-10, or a later day</span></p>$' \
+        ./desk page "$work/second.calls" --month 2026-07
+}
+
+# What was refused of closes and issues, beside what was accepted; as text, in lists, on the page, of a message file.
+settled_files() {
+    local file
+    file=$( { cat "$work/first.calls" && printf '%s\n' 'issue run=1 day=42' 'issue run=2 day=42' 'close run=1 day=42'; } | text again.calls)
+    expect 'issued twice, and not closed' 0 sh -c "./desk run '$file' | head -n 9" <<END
+line 18, call 18: issue run 1: refused, 39: line 17 issued run 1
+    to mend it: nothing: its statuses are sent once
+line 19, call 19: issue run 2: refused, 38: run 2 is not closed yet
+    to mend it: put \`close run=2\` in front of it, both on day 151 or later
+line 20, call 20: close run 1: refused, 28: line 16 closed run 1
+    to mend it: nothing: it is closed once; issue sends its statuses
+
+20 calls, 3 refused; day 41; run 1 issued; run 2 not closed; 2 quarter hours
+the first refused: line 18, call 18
+END
+    expect 'issued twice, and not closed, as csv' 1 ./desk runs "$file" --csv <<END
+run,closed,closed_day,closed_date,issued,issued_day,issued_date,selected,settled
+1,yes,40,,yes,41,,2,2
+2,no,,,no,,,3,1
+! desk: $file: 3 of 20 calls were refused; \`desk run\` says which and why
+END
+    has 'issued twice, on the page' 1 '^<li>line 18, call 18: issue run 1: refused, 39: line 17 issued run 1<br><span class="faint">to mend it: nothing: its statuses are sent once</span></li>$' \
+        ./desk page "$file"
+    holds 'not closed, on the page' grep -qxF '<li>line 19, call 19: issue run 2: refused, 38: run 2 is not closed yet<br><span class="faint">to mend it: put `close run=2` in front of it, both on day 151 or later</span></li>' "$work/out"
+    ./desk pack "$file" -o "$work/again.msg"
+    has 'issued twice, of a message file' 1 '^call 18, offset [0-9]+: issue run 1: refused, 39: call 17 issued run 1$' ./desk run "$work/again.msg"
+    kinds_of_files
+}
+
+# In a message file kind 7 is close and kind 8 issue; a file without kind 8 has closed runs that are not issued. Kinds 0, 9 and 10 are none.
+kinds_of_files() {
+    local kind
+    ./desk pack "$work/unsettled.calls" -o "$work/bare.msg"
+    { cat "$work/bare.msg" && printf '\7\1\50\7\2\227\1'; } >"$work/old.msg"
+    { cat "$work/old.msg" && printf '\10\2\227\1\10\1\230\1'; } >"$work/new.msg"
+    has 'a file of kind 7 alone' 0 '^17 calls, none refused; day 151; runs 1 and 2 closed, not issued; 2 quarter hours$' ./desk run "$work/old.msg"
+    holds 'its statuses are as they were' cmp <(./desk points "$work/old.msg" --csv) <(./desk points "$work/bare.msg" --csv)
+    holds 'its runs' cmp <(./desk runs "$work/old.msg" --csv | cut -d, -f 1-3,5,8-) <(printf '%s\n' run,closed,closed_day,issued,selected,settled 1,yes,40,no,2,0 2,yes,151,no,3,0)
+    has 'a file of kinds 7 and 8' 0 '^19 calls, none refused; day 152; runs 1 and 2 issued; 2 quarter hours$' ./desk run "$work/new.msg"
+    expect 'print: kinds 7 and 8' 0 sh -c "./desk print '$work/new.msg' | tail -n 4 | sed 's/  #.*//'" <<END
+close run=1 day=40
+close run=2 day=151
+issue run=2 day=151
+issue run=1 day=152
+END
+    expect 'print: a file that begins with kind 8' 0 sh -c "printf '\\10\\1\\37' | ./desk print -" <<END
+issue run=1 day=31  # offset 0
+END
+    holds 'pack of print: kinds 7 and 8' sh -c "./desk print '$work/new.msg' | ./desk pack - | cmp - '$work/new.msg'"
+    for kind in 0 11 12; do
+        { cat "$work/bare.msg" && printf '%b\1\50' "\\0$kind"; } >"$work/kind.msg"
+        has "a call of kind $((8#$kind))" 1 "damaged behind call 15, at offset $(wc -c <"$work/bare.msg"): refused, 33: a call's kind is not 1 to 8\$" ./desk run "$work/kind.msg"
     done
-    holds 'settled: the lines of a run on the page' sh -c "grep -qxF '<p>run 1 is settled: 2 of 2 selected versions settled; 3 points have none</p>' '$work/first.html' &&
-        grep -qxF '<p>run 2 is not settled: 1 of 3 selected versions settled; 2 its own, 1 as run 1; 2 points have none</p>' '$work/first.html'"
-    settled_edges
 }
 
 # A refused call beside it, no version at all, no point, no opening; more versions than a line has room for.
 settled_edges() {
     expect "settled: the paper's case" 1 selected_of examples/example.msg <<END
-run 1 is not settled: 0 of 1 selected version settled
-run 2 is not settled: 0 of 1 selected version settled; 0 its own, 1 as run 1
+run 1 is not closed: 0 of 1 selected version settled
+run 2 is not closed: 0 of 1 selected version settled; 0 its own, 1 as run 1
 
 point  series                        settled  run 1              run 2     other versions
     1  exchange area 1 with outside  no       7 settlement data  as run 1
 END
-    expect 'settled: no version' 0 selected_of <(printf '%s\n' "$OPEN" 'activate point=256 kind=area-sum area=3 partner=none day=0' 'settle run=1 day=31') <<END
-run 1 is settled: no version selected
-run 2 is not settled: no version selected
+    expect 'settled: no version' 0 selected_of <(printf '%s\n' "$OPEN" 'activate point=256 kind=area-sum area=3 partner=none day=0' 'close run=1 day=31' 'issue run=1 day=31') <<END
+run 1 is issued: no version selected
+    closed on day 31, issued on day 31
+run 2 is not closed: no version selected
 
 point  series           settled  run 1  run 2  other versions
   256  area-sum area 3  -        none   none
 END
     expect 'settled: no point' 0 ./desk run <(echo "$OPEN") <<END
-1 call, none refused; day 0; no run settled; 2 quarter hours
+1 call, none refused; day 0; no run closed; 2 quarter hours
 
 every group's month is 0
 END
     holds 'settled: nothing where the desk is not open' sh -c "! ./desk run '$work/closed.calls' | grep -q '^run [12] is '"
+    expect 'runs: none where the desk is not open' 1 ./desk runs "$work/closed.calls" --csv <<END
+run,closed,closed_day,closed_date,issued,issued_day,issued_date,selected,settled
+! desk: $work/closed.calls: 2 of 2 calls were refused; \`desk run\` says which and why
+! desk: $work/closed.calls: no call opened the desk
+END
     expect 'settled: 512 versions of a point' 0 sh -c "./desk run '$work/many.calls' | tail -n 1" <<END
     1  exchange area 1 with outside  no       512 settlement data  as run 1  settlement data (511)
 END
@@ -506,7 +708,7 @@ END
 END
     holds 'figures: a month does not change them' cmp <(./desk figures "$work/two.msg" --csv) <(./desk figures "$file" --month 2026-07 --csv)
     expect 'run: dates' 0 sh -c "./desk run '$work/two.msg' --month 2026-07 | head -n 5" <<END
-9 calls, none refused; day 31 (2026-09-14); run 1 settled; 2 quarter hours
+10 calls, none refused; day 31 (2026-09-14); run 1 issued; run 2 not closed; 2 quarter hours
 
 2 selections changed
     day 9 (2026-08-13): point 1, run 1: version 7 in the place of 5
@@ -576,19 +778,46 @@ END
 
 # bad WORDS LINE: a line that cannot be packed, between two that can.
 bad() {
-    bad_text "line 2: $1" 'settle run=1 day=31  # fine' "$2" 'settle run=1 day=32'
+    bad_text "line 2: $1" 'close run=1 day=31  # fine' "$2" 'issue run=1 day=32'
+}
+
+# `settle` is no call: what to write in its place, with the line's own run and day, and nothing is run or written.
+settle_lines() {
+    local two='settle is two calls: write' sent='and, when the statuses are to be sent,' blank='`close run=.. day=..`'
+    bad "$two \`close run=1 day=32\` $sent \`issue run=1 day=32\`" 'settle run=1 day=32'
+    bad "$two \`close run=correction day=151\` $sent \`issue run=correction day=151\`" 'settle day=151 run=correction'
+    bad "$two \`close run=1 day=3.5\` $sent \`issue run=1 day=3.5\`" 'settle run=1 day=3.5'
+    bad "$two \`close run=1 day=99999999999999999999999999999999..\` $sent \`issue run=1 day=99999999999999999999999999999999..\`" "settle run=1 day=$(printf '%050d' 0 | tr 0 9)"
+    bad "$two $blank $sent ${blank/close/issue}" 'settle'
+    bad "$two $blank $sent ${blank/close/issue}" 'settle run=1'
+    bad "$two $blank $sent ${blank/close/issue}" 'settle 1 32'
+    bad "$two $blank $sent ${blank/close/issue}" 'settle run=1 day=3 point=4'
+    bad "there is no call 'Settle'; calls are open, activate, deactivate, submit, notice, assign, close, issue" 'Settle run=1 day=32'
+    bad_text "line 2: $two \`close run=1 day=2026-12-15\` $sent \`issue run=1 day=2026-12-15\`" 'month 2026-10' 'settle run=1 day=2026-12-15'
+    printf '%s\n' "$OPEN" 'settle run=1 day=31' 'close run=1' 'settle run=2 day=2027-03-10' >"$work/bad.calls"
+    printf '%s\n' "! desk: $work/bad.calls: line 2: $two \`close run=1 day=31\` $sent \`issue run=1 day=31\`" "! desk: $work/bad.calls: line 3: close lacks day" \
+        "! desk: $work/bad.calls: line 4: $two \`close run=2 day=2027-03-10\` $sent \`issue run=2 day=2027-03-10\`" \
+        "! desk: $work/bad.calls: line 4: has a date, and no month is named in front: put \`month YYYY-MM\` there, or give --month YYYY-MM" >"$work/told"
+    expect 'run: settle among other mistakes, and nothing is run' 2 ./desk run "$work/bad.calls" <"$work/told"
+    echo before >"$work/before.html"
+    expect 'page: settle, and nothing is written' 2 ./desk page "$work/bad.calls" -o "$work/before.html" <"$work/told"
+    holds 'page: it is as it was' grep -qx before "$work/before.html"
 }
 
 bad_lines() {
     local numbers
-    bad "there is no call 'show'; calls are open, activate, deactivate, submit, notice, assign, settle" 'show run=1 group=1'
-    bad 'settle lacks day' 'settle run=1'
-    bad "settle has no field 'point'; its fields are run, day" 'settle run=1 day=3 point=4'
-    bad 'run stands twice' 'settle run=1 run=1 day=3'
-    bad "a field is written name=number: 'day'" 'settle run=1 day'
-    bad "day is no whole number: '3.5'" 'settle run=1 day=3.5'
-    bad 'day is outside 0 to 9223372036854775807, what a file can carry: '"'-1'" 'settle run=1 day=-1'
-    bad "day is outside 0 to 9223372036854775807, what a file can carry: '99999999999999999999999999999999..'" "settle run=1 day=$(printf '%05000d' 0 | tr 0 9)"
+    bad "there is no call 'show'; calls are open, activate, deactivate, submit, notice, assign, close, issue" 'show run=1 group=1'
+    bad 'close lacks day' 'close run=1'
+    bad 'issue lacks run' 'issue day=31'
+    bad "close has no field 'point'; its fields are run, day" 'close run=1 day=3 point=4'
+    bad "issue has no field 'version'; its fields are run, day" 'issue run=1 day=3 version=4'
+    bad 'run stands twice' 'close run=1 run=1 day=3'
+    bad "a field is written name=number: 'day'" 'close run=1 day'
+    bad "a field is written name=number: '1'; write the digits of a number together" 'issue 1 31'
+    bad "run is no number and no name: 'first'; names are settlement, correction" 'issue run=first day=31'
+    bad "day is no whole number: '3.5'" 'close run=1 day=3.5'
+    bad 'day is outside 0 to 9223372036854775807, what a file can carry: '"'-1'" 'issue run=1 day=-1'
+    bad "day is outside 0 to 9223372036854775807, what a file can carry: '99999999999999999999999999999999..'" "close run=1 day=$(printf '%05000d' 0 | tr 0 9)"
     bad "kind is no number and no name: 'exchang'; names are exchange, group-sum, area-sum, operator-sum, delta-transfer" \
         'activate point=1 kind=exchang area=1 partner=0 day=0'
     bad "an energy is outside -4611686018427387904 to 4611686018427387903, what a file can carry: '4611686018427387904'" \
@@ -602,23 +831,24 @@ bad_lines() {
     bad "unit is Wh or kWh: 'MWh'" 'submit point=1 version=1 day=2 unit=MWh energies=1'
     numbers=$(seq -s, 2981)
     bad '2981 energies, and a file carries at most 2980' "submit point=1 version=1 day=2 energies=$numbers"
-    printf 'settle run=1\nshow\n# fine\nsettle day=1\n' >"$work/bad.calls"
+    settle_lines
+    printf 'close run=1\nshow\n# fine\nissue day=1\n' >"$work/bad.calls"
     expect 'run: every bad line at once, and nothing is run' 2 ./desk run "$work/bad.calls" <<END
-! desk: $work/bad.calls: line 1: settle lacks day
-! desk: $work/bad.calls: line 2: there is no call 'show'; calls are open, activate, deactivate, submit, notice, assign, settle
-! desk: $work/bad.calls: line 4: settle lacks run
+! desk: $work/bad.calls: line 1: close lacks day
+! desk: $work/bad.calls: line 2: there is no call 'show'; calls are open, activate, deactivate, submit, notice, assign, close, issue
+! desk: $work/bad.calls: line 4: issue lacks run
 END
-    printf 'settle run=1 day=31 # \377\000 caf\351\n' >"$work/any.calls"
+    printf 'close run=1 day=31 # \377\000 caf\351\n' >"$work/any.calls"
     holds 'pack: a comment of any bytes' cmp <(./desk pack "$work/any.calls") <(printf '\7\1\37')
-    has 'pack: a byte order mark' 2 'begins with a byte order mark' ./desk pack <(printf '\357\273\277settle run=1 day=31\n')
-    printf 'settle run=1 day=31\r\nshow\nsettle run=1\r\n' >"$work/returns.calls"
+    has 'pack: a byte order mark' 2 'begins with a byte order mark' ./desk pack <(printf '\357\273\277close run=1 day=31\n')
+    printf 'close run=1 day=31\r\nshow\nissue run=1\r\n' >"$work/returns.calls"
     expect 'pack: carriage returns and other mistakes' 2 ./desk pack "$work/returns.calls" <<END
 ! desk: $work/returns.calls: line 1: has a carriage return, as 2 lines have; line ends are line feeds alone
-! desk: $work/returns.calls: line 2: there is no call 'show'; calls are open, activate, deactivate, submit, notice, assign, settle
-! desk: $work/returns.calls: line 3: settle lacks day
+! desk: $work/returns.calls: line 2: there is no call 'show'; calls are open, activate, deactivate, submit, notice, assign, close, issue
+! desk: $work/returns.calls: line 3: issue lacks day
 END
     has 'pack: carriage returns' 2 'line 1: has a carriage return, as 2 lines have; line ends are line feeds alone' \
-        ./desk pack <(printf 'settle run=1 day=31\r\nsettle run=1 day=31\r\n')
+        ./desk pack <(printf 'close run=1 day=31\r\nissue run=1 day=31\r\n')
     has 'run: UTF-16' 2 'is text in UTF-16' ./desk run <(printf '\377\376s\000')
     has 'pack: a message file' 2 'is no text' ./desk pack examples/month.msg
 }
@@ -690,7 +920,8 @@ submit point=1 version=2 day=3 energies=none
 deactivate point=1 day=3
 notice point=1 version=2 verdict=negative day=3
 assign area=T group=64 day=3
-settle run=2 day=400
+close run=2 day=400
+issue run=9223372036854775807 day=0
 END
     for file in examples/example.msg examples/month.msg examples/empty.msg "$work/edges.msg"; do
         ./desk print "$file" >"$work/text" 2>/dev/null
@@ -872,7 +1103,7 @@ run,group,lodged,schedule,figure,surplus,shortfall
 1,63,yes,0,0,1000000000000,1000000000000
 1,64,yes,999999999999,0,1999999999999,1000000000000
 END
-    { cat "$1" && echo 'settle run=1 day=30'; } >"$work/part.calls"
+    { cat "$1" && echo 'issue run=1 day=31'; } >"$work/part.calls"
     expect 'report: a month that is refused in part' 1 ./desk report "$work/part.calls" "$2" --run 1 --group 9 --csv <<END
 run,group,lodged,schedule,figure,surplus,shortfall
 1,9,yes,2,0,7,5
@@ -1065,8 +1296,9 @@ submit point=1 version=1 day=9 energies=1,2
 deactivate point=1 day=10
 assign area=T group=5 day=12
 notice point=1 version=1 verdict=positive day=20
-settle run=1 day=31
-settle run=2 day=400
+close run=1 day=31
+issue run=1 day=32
+close run=2 day=400
 END
     )
     # A Sunday has the number of the Friday before it; 18 November 2026 is a holiday.
@@ -1079,8 +1311,9 @@ submit point=1 version=1 day=2026-11-12 energies=1,2
 deactivate point=1 day=2026-11-15
 assign area=T group=5 day=2026-11-18
 notice point=1 version=1 verdict=positive day=2026-11-30
-settle run=1 day=31
-settle run=2 day=2028-06-16
+close run=1 day=31
+issue run=1 day=2026-12-16
+close run=2 day=2028-06-16
 END
     )
     ./desk pack "$numbers" -o "$work/numbers.msg"
@@ -1088,9 +1321,9 @@ END
     sed 2d "$dates" >"$work/bare.calls"
     holds 'pack: --month does without the line' sh -c "./desk pack --month 2026-10 '$work/bare.calls' | cmp - '$work/numbers.msg'"
     holds 'pack: --month beside the line' sh -c "./desk pack --month 2026-10 '$dates' | cmp - '$work/numbers.msg'"
-    holds 'pack: a month behind numbers' cmp <(printf 'settle run=1 day=31\nmonth 2026-10\nsettle run=1 day=2026-12-15\n' | ./desk pack -) <(printf '\7\1\37\7\1\37')
+    holds 'pack: a month behind numbers' cmp <(printf 'close run=1 day=31\nmonth 2026-10\nissue run=1 day=2026-12-15\n' | ./desk pack -) <(printf '\7\1\37\10\1\37')
     has 'figures: --month does without the line' 1 '^  1        2      3                 2$' ./desk figures --month 2026-10 "$work/bare.calls"
-    has 'figures: dates and no month' 2 'line 2: has a date, as 7 lines have, and no month is named' ./desk figures "$work/bare.calls"
+    has 'figures: dates and no month' 2 'line 2: has a date, as 8 lines have, and no month is named' ./desk figures "$work/bare.calls"
     has 'run: a month line is no call' 1 '^line 6, call 4: deactivate point 1: refused, 23: point 1 has version 1 \(line 5\)$' ./desk run "$dates"
     has 'run: a month and no call' 2 'is text without a call$' ./desk run <(echo 'month 2026-10')
     holds 'pack: a month and no call' cmp <(echo 'month 2026-10' | ./desk pack - 2>/dev/null) /dev/null
@@ -1105,11 +1338,11 @@ END
 
 # bad_date WORDS FIELD: after October 2026.
 bad_date() {
-    bad_text "line 2: $1" 'month 2026-10' "settle run=1 $2" 'settle run=1 day=2026-12-15'
+    bad_text "line 2: $1" 'month 2026-10' "close run=1 $2" 'issue run=1 day=2026-12-15'
 }
 
 bad_dates() {
-    local line='settle run=1 day=2026-12-15'
+    local line='close run=1 day=2026-12-15'
     bad_date 'day is refused, 36: there is no date 2027-02-30' day=2027-02-30
     bad_date 'day is refused, 36: there is no date 2026-13-01' day=2026-13-01
     bad_date 'day is refused, 36: there is no date 2026-12-00' day=2026-12-00
@@ -1124,14 +1357,14 @@ bad_dates() {
     bad_date "day is no whole number: '20261215x'" day=20261215x
     bad_text "line 2: clearing is refused, 36: there is no date 2026-11-31" 'month 2026-10' 'open quarters=2 first=10 clearing=2026-11-31 correction=150 others=3'
     bad_text "line 2: quarters is no whole number: '2026-11-12'" 'month 2026-10' 'open quarters=2026-11-12 first=10 clearing=30 correction=150 others=3'
-    bad_text 'line 2: has a date, and no month is named in front: put `month YYYY-MM` there, or give --month YYYY-MM' 'settle run=1 day=31' "$line"
+    bad_text 'line 2: has a date, and no month is named in front: put `month YYYY-MM` there, or give --month YYYY-MM' 'issue run=1 day=31' "$line"
     bad_text 'line 1: has a date, as 3 lines have, and no month is named in front: put `month YYYY-MM` there, or give --month YYYY-MM' \
-        'open quarters=2 first=2026-11-13 clearing=2026-12-14 correction=150 others=3' 'settle run=1 day=31' "$line" "$line"
+        'open quarters=2 first=2026-11-13 clearing=2026-12-14 correction=150 others=3' 'issue run=1 day=31' "$line" "$line"
 }
 
 # Every bad line is named, in their order.
 bad_months() {
-    local line='settle run=1 day=2026-12-15'
+    local line='close run=1 day=2026-12-15'
     bad_text 'line 3: the month stands twice: line 1 names it' 'month 2026-10' "$line" 'month 2026-10'
     bad_text "line 1: a month is written YYYY-MM: '2026-1'" 'month 2026-1' "$line"
     bad_text 'line 1: a month is named by `month YYYY-MM` and nothing else' 'month' "$line"
@@ -1140,17 +1373,17 @@ bad_months() {
     bad_text 'line 1: the month is refused, 36: 2019-12 is no month of 2020 to 2059' 'month 2019-12' "$line"
     bad_text 'line 1: the month is refused, 36: 2026-13 is no month of 2020 to 2059' 'month 2026-13' "$line"
     bad_text 'line 1: the month is refused, 36: 2060-01 is no month of 2020 to 2059' 'month 2060-01' "$line"
-    printf '%s\n' "$line" 'month 2026-10' 'settle run=1 day=2026-12-32' 'settle day=1' >"$work/bad.calls"
+    printf '%s\n' "$line" 'month 2026-10' 'issue run=1 day=2026-12-32' 'issue day=1' >"$work/bad.calls"
     expect 'pack: a month behind a date, and other mistakes' 2 ./desk pack "$work/bad.calls" <<END
 ! desk: $work/bad.calls: line 1: has a date, and no month is named in front: put \`month YYYY-MM\` there, or give --month YYYY-MM
 ! desk: $work/bad.calls: line 2: the month stands behind line 1, which has a date; put it in front of the first date
 ! desk: $work/bad.calls: line 3: day is refused, 36: there is no date 2026-12-32
-! desk: $work/bad.calls: line 4: settle lacks run
+! desk: $work/bad.calls: line 4: issue lacks run
 END
     expect 'pack: a month behind a date, with --month' 2 ./desk pack --month 2026-10 "$work/bad.calls" <<END
 ! desk: $work/bad.calls: line 2: the month stands behind line 1, which has a date; put it in front of the first date
 ! desk: $work/bad.calls: line 3: day is refused, 36: there is no date 2026-12-32
-! desk: $work/bad.calls: line 4: settle lacks run
+! desk: $work/bad.calls: line 4: issue lacks run
 END
 }
 
@@ -1272,7 +1505,7 @@ END
 # Numbers become dates and numbers again; numbers that have no date stay.
 dates_and_back() {
     local month
-    { seq -f 'settle run=1 day=%.0f' 0 402 && echo 'settle run=1 day=9223372036854775807' &&
+    { seq -f 'close run=1 day=%.0f' 0 402 && echo 'issue run=1 day=9223372036854775807' &&
         echo 'open quarters=18 first=1 clearing=20 correction=400 T=17 others=16' &&
         echo 'submit point=15 version=14 day=13 energies=12'; } | ./desk pack - -o "$work/numbers.msg"
     for month in 2020-01 2026-10 2059-11 2059-12; do
@@ -1281,10 +1514,10 @@ dates_and_back() {
     done
     expect 'print: days as dates, other numbers as they are' 0 sh -c "./desk print --month 2059-11 '$work/numbers.msg' | sed 's/  #.*//' | sed -n '1,2p; 20,22p; 406,\$p'" <<END
 month 2059-11
-settle run=1 day=2059-11-30
-settle run=1 day=2059-12-29
-settle run=1 day=2059-12-30
-settle run=1 day=20
+close run=1 day=2059-11-30
+close run=1 day=2059-12-29
+close run=1 day=2059-12-30
+close run=1 day=20
 open quarters=18 first=2059-12-01 clearing=20 correction=400 T=17 1=16 2=16 3=16 4=16 5=16 6=16 7=16 8=16 9=16 10=16 11=16 12=16 13=16 14=16 15=16 16=16
 submit point=15 version=14 day=2059-12-17 energies=12
 END
@@ -1361,21 +1594,22 @@ example() { # command
 
 help() {
     local command
-    for command in run figures log points report page pack print day date calendar causes; do
+    for command in run figures log points runs report page pack print day date calendar causes; do
         holds "help of $command, and its example" example "$command"
     done
     holds 'help of report by its name' cmp <(./desk help report) <(./desk report --help)
     has 'help' 0 '^Exit status: 0 all calls accepted' ./desk --help
-    has 'version' 0 '^desk [0-9.]+, library 6$' ./desk --version
+    has 'version' 0 '^desk [0-9.]+, library 7$' ./desk --version
     has 'no command' 2 'desk run' ./desk
     has 'a wrong command' 2 "there is no command 'runn'; commands are run, figures" ./desk runn
     has 'help of a wrong command' 2 "there is no command 'runn'" ./desk help runn
     has 'words behind --version' 2 "nothing follows: 'x'" ./desk --version x
     has 'a wrong option' 2 'desk log has no option --runn; its options are --csv, --json, --run, --group, --month$' ./desk log x --runn 3
     has 'an option of others: run' 2 'desk run has no option --group; figures, log, points, report have it$' ./desk run x --group 3
-    has 'an option of others: page' 2 'desk page has no option --run; figures, log, points, report have it$' ./desk page x --run 1
-    has 'an option of others: causes' 2 'desk causes has no option --run; figures, log, points, report have it$' ./desk causes --run 1
-    has 'an option of others: day' 2 'desk day has no option --month; run, figures, log, points, report, page, pack, print have it$' ./desk day x --month 2026-10
+    has 'an option of others: page' 2 'desk page has no option --run; figures, log, points, runs, report have it$' ./desk page x --run 1
+    has 'an option of others: causes' 2 'desk causes has no option --run; figures, log, points, runs, report have it$' ./desk causes --run 1
+    has 'an option of others: day' 2 'desk day has no option --month; run, figures, log, points, runs, report, page, pack, print have it$' ./desk day x --month 2026-10
+    has 'an option of others: runs' 2 'desk runs has no option --group; figures, log, points, report have it$' ./desk runs x --group 3
     has 'an option of others: log' 2 'desk log has no option --all; figures, report have it$' ./desk log x --all
     has 'an option of another' 2 'desk run has no option --schedules; desk page has it$' ./desk run x --schedules y
     has 'an option twice' 2 '--run stands twice' ./desk log x --run 1 --run 2
@@ -1396,7 +1630,7 @@ help() {
 man_page() {
     local command line
     sed 's/\\-/-/g; s/\\&//g; s/\\e/\\/g' "$work/desk.1" >"$work/manual"
-    for command in run figures log points report page pack print day date calendar causes; do
+    for command in run figures log points runs report page pack print day date calendar causes; do
         ./desk "$command" --help | while IFS= read -r line; do
             [ -z "$line" ] || grep -qF -- "${line%.}" "$work/manual" || { echo "$command: $line" && return 1; }
         done || return 1
@@ -1443,6 +1677,7 @@ causes() {
     calls:   submit, notice, assign, lodge, show, report; entries for C
     calls:   assign, lodge
 END
+    run_causes
     has 'the cause of a date' 0 '^    calls:   calendar$' ./desk causes 36
     has 'no such cause' 2 "there is no cause '7'" ./desk causes 7
 }
@@ -1473,13 +1708,46 @@ END
 END
 }
 
+# The causes of close and issue as each form shows them.
+run_causes() {
+    expect 'the causes of close and issue' 0 ./desk causes 27 28 29 38 39 <<END
+27  the day does not lie behind the run's deadline: clearing for run 1, correction for run 2
+    calls:   close
+    to mend: close on a later day
+28  the run is closed already
+    calls:   close
+    to mend: nothing: it is closed once; issue sends its statuses
+29  run 1 is not closed yet
+    calls:   close, of run 2
+    to mend: close run 1 first
+38  the run is not closed yet
+    calls:   issue
+    to mend: close it first, behind its deadline
+39  the run is issued already
+    calls:   issue
+    to mend: nothing: its statuses are sent once
+END
+    expect 'the causes of issue as csv' 0 ./desk causes 39 38 --csv <<END
+number,name,meaning,calls,mend
+38,NOT_CLOSED,the run is not closed yet,issue,"close it first, behind its deadline"
+39,ALREADY_ISSUED,the run is issued already,issue,nothing: its statuses are sent once
+END
+    expect 'the causes of issue as json' 0 ./desk causes 38 39 --json <<END
+[
+{"number":38,"name":"NOT_CLOSED","meaning":"the run is not closed yet","calls":"issue","mend":"close it first, behind its deadline"},
+{"number":39,"name":"ALREADY_ISSUED","meaning":"the run is issued already","calls":"issue","mend":"nothing: its statuses are sent once"}
+]
+END
+    has 'the cause of a kind' 0 "^33  a call's kind is not 1 to 8\$" ./desk causes 33
+}
+
 # ---- a month of 2,976 quarter hours, 256 points and 512 versions
 
 month() {
     local start end
     python3 tests/month.py 2976 >"$work/large.calls"
     holds 'a large month is run' sh -c "./desk run '$work/large.calls' >'$work/large'"
-    holds 'its summary' grep -qx '942 calls, none refused; day 151; runs 1 and 2 settled; 2976 quarter hours' "$work/large"
+    holds 'its summary' grep -qx '944 calls, none refused; day 151; runs 1 and 2 issued; 2976 quarter hours' "$work/large"
     ./desk pack "$work/large.calls" -o "$work/large.msg"
     holds 'its lines of points' test "$(sed '1,/^point  series/d' "$work/large" | wc -l)" -eq 256
     holds 'no line above 120 columns' sh -c "! grep -qE '.{121}' '$work/large'"
@@ -1510,9 +1778,9 @@ END
     page_script two "$work/two.calls"
     page_of july examples/july.calls
     page_script july examples/july.calls
-    holds 'what July settles, on the page' sh -c "grep -qxF '<p>run 2 is settled: 7 of 7 selected versions settled; 1 its own, 6 as run 1</p>' '$work/july.html' &&
+    holds 'what July settles, on the page' sh -c "grep -qxF '<p>run 2 is issued: 7 of 7 selected versions settled; 1 its own, 6 as run 1<br><span class=\"faint\">closed on day 151 (2027-03-10), issued on day 151 (2027-03-10)</span></p>' '$work/july.html' &&
         grep -qF '<td class=\"word\">group-sum area 2 group 7</td><td class=\"word good\">both</td><td data-n=\"1\">1</td><td class=\"word\">settled</td><td data-n=\"2\">2</td><td class=\"word\">correction settled</td>' '$work/july.html'"
-    holds 'dates on the page' sh -c "grep -q '<strong>21 calls, none refused; day 151 (2027-03-10); ' '$work/july.html' &&
+    holds 'dates on the page' sh -c "grep -q '<strong>23 calls, none refused; day 151 (2027-03-10); ' '$work/july.html' &&
         grep -q '<li>day 21 (2026-08-31): point 3, run 1: ' '$work/july.html' &&
         grep -q 'the deadlines F, day 10 (2026-08-14); C, day 30 (2026-09-11); K, day 150 (2027-03-09)\.' '$work/july.html' &&
         grep -q '<td data-n=\"21\">21</td><td class=\"word\">2026-08-31</td>' '$work/july.html'"
@@ -1545,8 +1813,9 @@ page_of() {
 page_script() {
     ./desk points "$2" --csv >"$work/$1.points"
     ./desk log "$2" --csv >"$work/$1.log"
+    ./desk runs "$2" --csv >"$work/$1.runs"
     [ -z "${3:-}" ] || ./desk report "$2" "$3" --csv >"$work/$1.report"
-    holds "the page's script: $1" node tests/page.js "$work/$1.html" "$work/$1.csv" "$work/$1.points" "$work/$1.log" ${3:+"$work/$1.report" "$3"}
+    holds "the page's script: $1" node tests/page.js "$work/$1.html" "$work/$1.csv" "$work/$1.points" "$work/$1.log" "$work/$1.runs" ${3:+"$work/$1.report" "$3"}
 }
 
 # ---- README
@@ -1569,9 +1838,11 @@ mkdir -p "$work" || exit 2
 if ./desk --version >"$work/log" 2>&1; then
     pass 'the program is built'
     refusals
+    runs_refused
     notices
     dated_refusals
     holds 'one typed day' typed_day
+    holds 'a run that waits for its issue' waiting
     too_many
     not_open
     sample

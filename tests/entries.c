@@ -1,6 +1,7 @@
 /*
  * Every entry with NULL where the length is 0, the calendar, and both on a thread of EMORIZUGU_STACK bytes; the places of
- * the points, and of document 01's sample month the versions selected with their statuses, and a report.
+ * the summary and the points, kinds of calls, runs closed and issued; and of document 01's sample month the versions selected
+ * with their statuses, and a report.
  */
 #include <pthread.h>
 #include <stdio.h>
@@ -58,8 +59,12 @@ static int nothing(void) {
         return wrong("a sum of no book");
     if (emorizugu_read(NULL, 0, 0, NULL, 0, NULL, 0) != 2)
         return wrong("a call read to nowhere");
-    if (emorizugu_write(7, NULL, 0, NULL, 0, NULL, 0, &size, 1) != 35 || size != 0)
+    if (emorizugu_write(8, NULL, 0, NULL, 0, NULL, 0, &size, 1) != 35 || size != 0)
         return wrong("a call written to nowhere");
+    if (emorizugu_write(0, NULL, 0, NULL, 0, NULL, 0, &size, 1) != 33
+        || emorizugu_write(9, NULL, 0, NULL, 0, NULL, 0, &size, 1) != 33
+        || emorizugu_write(10, NULL, 0, NULL, 0, NULL, 0, &size, 1) != 33)
+        return wrong("a call of no kind");
     return emorizugu_version() == EMORIZUGU_VERSION ? 0 : wrong("the version");
 }
 
@@ -73,14 +78,39 @@ static int selected(void) {
     return last[EMORIZUGU_STATUS_1] == 0 && last[EMORIZUGU_STATUS_2] == 0 ? 0 : wrong("the statuses of a free point");
 }
 
-/* Points of so many places; nothing is done where they are too few. */
-static int places(size_t points, uint64_t answer) {
+/* A summary and points of so many places; nothing is done where they are too few. */
+static int places(size_t summary, size_t points, uint64_t answer) {
     static struct emorizugu_lent none;
-    none.points[0] = 9;
-    if (emorizugu_replay(NULL, 0, NULL, 0, NULL, 0, NULL, 0, NULL, 0, NULL, 0, NULL, 0, none.summary, EMORIZUGU_SUMMARY,
-                         none.points, points, none.versions, EMORIZUGU_VERSIONS_LENGTH) != answer)
-        return wrong("the places of the points");
+    none.summary[0] = none.points[0] = 9;
+    if (emorizugu_replay(NULL, 0, NULL, 0, NULL, 0, NULL, 0, NULL, 0, NULL, 0, NULL, 0, none.summary, summary, none.points,
+                         points, none.versions, EMORIZUGU_VERSIONS_LENGTH) != answer)
+        return wrong("the places of the summary and the points");
+    if (none.summary[0] != (answer == 0 ? 0 : 9))
+        return wrong("a summary that is too short");
     return none.points[0] == (answer == 0 ? 0 : 9) ? 0 : wrong("points that are too few");
+}
+
+/* Both runs closed, run 2 issued, run 1 not: the month is opened with F 10, C 30 and K 150. An issue of run 1 before its close
+   and one of run 2 behind its issue are refused. */
+static int acts(void) {
+    static const uint8_t calls[] = {1, 1, 10, 30, 0x96, 1, 4, 1, 2, 3, 3, 3, 3, 3, 3, 3, 3, 3, 3, 3, 3, 3, 3,
+                                    8, 1, 31, 7, 1, 31, 7, 2, 0x97, 1, 8, 2, 0x97, 1, 8, 2, 0x97, 1};
+    static const uint64_t wanted[] = {0, EMORIZUGU_NOT_CLOSED, 0, 0, 0, EMORIZUGU_ALREADY_ISSUED};
+    static uint64_t book[EMORIZUGU_BOOK_ROWS], schedules[EMORIZUGU_GROUPS], answers[8];
+    static struct emorizugu_lent a;
+    size_t i;
+    a.file = calls, a.length = sizeof calls;
+    a.book = book, a.book_length = EMORIZUGU_BOOK_LENGTH(1);
+    a.schedules = schedules, a.schedules_length = EMORIZUGU_SCHEDULES_LENGTH(1);
+    a.answers = answers, a.answers_length = 8;
+    if (emorizugu_run(&a) != 0 || a.summary[EMORIZUGU_ANSWERED] != sizeof wanted / sizeof *wanted)
+        return wrong("a file of closes and issues");
+    for (i = 0; i < sizeof wanted / sizeof *wanted; i++)
+        if (answers[i] != wanted[i])
+            return wrong("the answer to a close or an issue");
+    if (a.summary[EMORIZUGU_CLOSED_1] != 1 || a.summary[EMORIZUGU_CLOSED_2] != 1)
+        return wrong("the runs that are closed");
+    return a.summary[EMORIZUGU_ISSUED_1] == 0 && a.summary[EMORIZUGU_ISSUED_2] == 1 ? 0 : wrong("the runs that are issued");
 }
 
 /* A report of group 5, as it is read of what the replay left: its schedule is 0 until the host writes one. */
@@ -135,7 +165,7 @@ static int small_stack(const char *name) {
 }
 
 int main(int argc, char **argv) {
-    if (nothing() != 0 || places(2303, 2) != 0 || places(2304, 0) != 0)
+    if (nothing() != 0 || places(12, 2303, 2) != 0 || places(11, 2304, 2) != 0 || places(12, 2304, 0) != 0 || acts() != 0)
         return 1;
     return argc == 2 && small_stack(argv[1]) == 0 ? 0 : 1;
 }

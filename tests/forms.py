@@ -1,6 +1,6 @@
 #!/usr/bin/env python3
 """Compares the forms of each list of `desk` on a month: text, csv and json have the same rows in the same order, at each run, and the order is total.
-Of the points' versions those count that document 01 selects by their statuses, and `desk run` tells the same of each point.
+Of the points' versions those count that document 01 selects by their statuses, and `desk run` tells the same of each point and of each run.
 With schedules, in watt-hours and on their lines, each report is what document 02 works out from schedules and figures, and so are both sides of their sum.
 
     forms.py DESK MONTH [--schedules TEXT] [--group N] [--month M]
@@ -17,7 +17,7 @@ STATUSES = ("check data", "settlement data", "settled", "correction settlement d
 FIRST, SECOND, SETTLED = STATUSES[1:3], STATUSES[3:], STATUSES[2::2]
 
 # The columns that a list is ordered by; no two rows are equal in them.
-ORDER = {"figures": ("run", "quarter", "group"), "log": ("row",), "points": ("point", "version"), "report": ("run", "group")}
+ORDER = {"figures": ("run", "quarter", "group"), "log": ("row",), "points": ("point", "version"), "runs": ("run",), "report": ("run", "group")}
 
 WORDS = argparse.ArgumentParser()
 for word in ("desk", "file", "--schedules", "--group", "--month"):
@@ -36,7 +36,8 @@ def written(name, *options):
 
 
 def listed(name, *options):
-    return written(name, *GROUP, *options)
+    """A list of the month; runs have no group."""
+    return written(name, *(GROUP if name != "runs" else []), *options)
 
 
 def highest(versions, statuses):
@@ -69,7 +70,7 @@ def told_version(row):
 
 
 def line_of(rows, runs):
-    """A point's cells in the table of `desk run`; the other versions as a list. `runs` are those settled."""
+    """A point's cells in the table of `desk run`; the other versions as a list. `runs` are those issued."""
     versions = [row for row in rows if row["version"]]
     first, second = selected(versions)
     settled = [name for name, row in (("run 1", first), ("run 2", second)) if name in runs and is_settled(row)]
@@ -98,7 +99,7 @@ def told(points):
     cells = [[one[a:b].strip() for a, b in zip([0, *places], [*places, None])] for one in lines]
     found = {row[0]: row for row in cells}
     assert list(found) == sorted(found, key=int), "desk run"
-    runs = [run for run in ("run 1", "run 2") if f"\n{run} is settled: " in text]
+    runs = [run for run in ("run 1", "run 2") if f"\n{run} is issued: " in text]
     for rows in points:
         *wanted, others = line_of(rows, runs)
         *cells_there, rest = found[wanted[0]]
@@ -121,6 +122,39 @@ def counted(points):
                 assert row[f"run_{run}"] == ("yes" if row is wanted else "no"), row
         for row in versions:
             assert row["settled"] == ("yes" if is_settled(row) else "no"), row
+
+
+def shown(day, date):
+    return f"{day} ({date})" if date else day
+
+
+def run_lines(row):
+    """What `desk run` says of a run: whether it is closed and issued, how many of its versions are settled, when that was."""
+    state = "issued" if row["issued"] == "yes" else "closed, not issued" if row["closed"] == "yes" else "not closed"
+    many = f"{row['settled']} of {row['selected']} selected versions settled"
+    many = {"0": "no version selected", "1": many.replace("versions", "version")}.get(row["selected"], many)
+    lines = [f"run {row['run']} is {state}: {many}"]
+    closed, issued = (shown(row[f"{act}_day"], row[f"{act}_date"]) for act in ("closed", "issued"))
+    if issued:
+        lines.append(f"    closed on day {closed}, issued on day {issued}")
+    elif closed:
+        lines.append(f"    closed on day {closed}; to send its statuses: issue run={row['run']} day=")
+    return lines
+
+
+def acted(points):
+    """Each run's lines in `desk run` are those of its row, which counts what the list of points says."""
+    text = written("run").splitlines()
+    for row in csv.DictReader(io.StringIO(written("runs", "--csv"))):
+        assert (row["closed"] == "yes") == bool(row["closed_day"]) and (row["issued"] == "yes") == bool(row["issued_day"]), row
+        first, *rest = run_lines(row)
+        at = [place for place, line in enumerate(text) if line.startswith(first)]
+        assert len(at) == 1, (first, at)
+        assert text[at[0] + 1].startswith(rest[0]) if rest else not text[at[0] + 1].startswith(" "), (first, rest)
+        if not ASKED.group:
+            counted_rows = [one for rows in points for one in rows if one[f"run_{row['run']}"] == "yes"]
+            settled_rows = [one for one in counted_rows if one["settled"] == "yes"]
+            assert (len(counted_rows), len(settled_rows)) == (int(row["selected"]), int(row["settled"])), row
 
 
 def lodged():
@@ -194,6 +228,7 @@ def main():
     points = points_of(list(csv.DictReader(io.StringIO(listed("points", "--csv")))))
     counted(points)
     told(points)
+    acted(points)
     if ASKED.schedules:
         reported()
 

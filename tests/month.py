@@ -1,5 +1,5 @@
 #!/usr/bin/env python3
-"""Writes a large month as text: so many quarter hours, 256 points, 512 versions, both runs settled. Or schedules for it: of most groups, one of them twice.
+"""Writes a large month as text: so many quarter hours, 256 points, 512 versions, both runs closed and issued. Or schedules for it: of most groups, one of them twice.
 
     month.py QUARTERS [schedules]
 """
@@ -50,10 +50,12 @@ def main():
         print(f"submit point={point} version=2 day=12 energies={energies(point, 2)}")
     for point, _ in points[::3]:
         print(f"notice point={point} version=2 verdict=positive day=20")
-    print("settle run=1 day=31")
+    print("close run=1 day=31")
+    print("issue run=1 day=31")
     for point, _ in points[1::3]:
         print(f"notice point={point} version=2 verdict=positive day=40")
-    print("settle run=2 day=151")
+    print("close run=2 day=151")
+    print("issue run=2 day=151")
 
 
 if sys.argv[2:] == ["schedules"]:

@@ -2,19 +2,19 @@
 // heat maps, a group's curve on a click, the timeline, what each run selects; a sorted column keeps ties in the list's order and each row whole. With schedules,
 // in watt-hours and on their lines, also the bars and the table of surplus and shortfall, and the schedule beside a curve.
 //
-//     node page.js PAGE FIGURES POINTS LOG [REPORT SCHEDULES]        the lists as csv, figures with --all
+//     node page.js PAGE FIGURES POINTS LOG RUNS [REPORT SCHEDULES]        the lists as csv, figures with --all
 "use strict";
 const assert = require("assert");
 const fs = require("fs");
 
 const page = fs.readFileSync(process.argv[2], "utf8");
-const [figures, points, log, report] = process.argv.slice(3, 7).map((name) => {
+const [figures, points, log, runs, report] = process.argv.slice(3, 8).map((name) => {
   const [head, ...lines] = fs.readFileSync(name, "utf8").trimEnd().split("\n").map((line) => line.split(","));
   return lines.map((line) => { const row = {}; head.forEach((column, at) => row[column] = line[at]); return row; });
 });
 
 const plans = {};
-const lodgings = process.argv[7] === undefined ? "" : fs.readFileSync(process.argv[7], "utf8");
+const lodgings = process.argv[8] === undefined ? "" : fs.readFileSync(process.argv[8], "utf8");
 for (const [, group, energies] of lodgings.matchAll(/^lodge group=(\d+) energies=(\S+)/gm)) plans[group] = energies.split(",").map(Number);
 
 // ---- the stand-in
@@ -241,6 +241,18 @@ function listed(table, list) {
 
 // ---- what each run selects
 
+// A paragraph a run: whether it is closed and issued, how many of its versions are settled; when that was.
+function told({ run, closed, closed_day, closed_date, issued, issued_day, issued_date, selected, settled }) {
+  const state = issued === "yes" ? "issued" : closed === "yes" ? "closed, not issued" : "not closed";
+  const many = selected === "0" ? "no version selected" : `${settled} of ${selected} selected version${selected === "1" ? "" : "s"} settled`;
+  const day = (number, date) => `day ${number}${date === "" ? "" : ` (${date})`}`;
+  const next = issued === "yes" ? `, issued on ${day(issued_day, issued_date)}</span>` : `; to send its statuses: issue run=${run} day=`;
+  const [line] = page.match(new RegExp(`^<p>run ${run} is .*</p>$`, "m"));
+  assert(line.startsWith(`<p>run ${run} is ${state}: ${many}`), line);
+  assert.strictEqual(line.includes("<br>"), closed === "yes", line);
+  if (closed === "yes") assert(line.includes(`<br><span class="faint">closed on ${day(closed_day, closed_date)}${next}`), line);
+}
+
 function seriesOf({ kind, area, partner }) {
   const words = { exchange: `area ${area} with ${partner === "0" ? "outside" : "area " + partner}`, "group-sum": `area ${area} group ${partner}`, "operator-sum": `group ${partner}` };
   return `${kind} ${words[kind] || "area " + area}`;
@@ -250,7 +262,7 @@ function seriesOf({ kind, area, partner }) {
 function selectedRow(number) {
   const rows = points.filter((row) => row.point === number);
   const picked = ["run_1", "run_2"].map((run) => rows.find((row) => row[run] === "yes"));
-  const settled = picked.map((row, at) => row !== undefined && row.settled === "yes" && page.includes(`<p>run ${at + 1} is settled: `));
+  const settled = picked.map((row, at) => row !== undefined && row.settled === "yes" && runs[at].issued === "yes");
   const word = picked[1] === undefined ? "-" : settled[0] && settled[1] ? "both" : settled[0] ? "run 1" : settled[1] ? "run 2" : "no";
   const status = (row, run) => run === 1 && row === picked[0] ? row.status + ", as run 1" : row.status;
   const cells = picked.flatMap((row, run) => row === undefined ? ["", ""] : [row.version, status(row, run)]);
@@ -262,6 +274,7 @@ assert.strictEqual(tables.length, report === undefined ? 5 : 6);
 const [selectedTable, pointTable, logTable] = tables.slice(-3);
 assert.deepStrictEqual(selectedTable.tBodies[0].rows.map((row) => row.cells.map((cell) => cell.textContent)), [...new Set(points.map((row) => row.point))].map(selectedRow));
 for (const [table, list] of [[pointTable, points], [logTable, log]]) assert.deepStrictEqual(listed(table, list), list.map((row) => Object.values(row).join()));
+runs.forEach(told);
 timeline();
 const high = heat(0);
 heat(1);

@@ -155,7 +155,8 @@ activate point=1 kind=2 area=1 partner=5 day=0
 submit point=1 version=1 day=2 energies=-1000000000000
 submit point=1 version=2 day=40 energies=-7
 notice point=1 version=2 verdict=1 day=41
-settle run=1 day=42
+close run=1 day=42
+issue run=1 day=43
 END
     expect 'negative figures, and a version of run 2' 0 ./run "$work/negative.msg" <<END
 1 0
@@ -164,6 +165,7 @@ END
 4 0
 5 0
 6 0
+7 0
 G 1 1 1 1000000000000
 G 1 1 5 -1000000000000
 T 1 1 0
@@ -201,7 +203,8 @@ activate point=2 kind=1 area=1 partner=0 day=0
 submit point=1 version=1 day=1 energies=1
 deactivate point=2 day=2
 submit point=1 version=1 day=2 energies=none
-settle run=2 day=151
+close run=2 day=151
+issue run=2 day=151
 END
     expect 'refused calls' 0 ./run "$work/answers.msg" <<END
 1 1
@@ -214,6 +217,67 @@ END
 8 12
 9 3
 10 29
+11 38
+T 1 1 0
+T 2 1 0
+END
+}
+
+# Close and issue: byte 8 is a call, 0, 9 and 10 are none; the answers of both, and the order in which they are checked.
+desk_on_acts() {
+    local byte
+    head -c 23 examples/example.msg >"$work/open.msg"
+    for byte in 00 09 0a; do
+        { cat "$work/open.msg" && repeat "${byte}011f" 1; } >"$work/byte.msg"
+        expect "byte $byte is no call" 0 ./run "$work/byte.msg" <<END
+1 0
+F 33 23
+END
+    done
+    { cat "$work/open.msg" && repeat 08011f 1; } >"$work/byte.msg"
+    expect 'byte 08 is an issue' 0 ./run "$work/byte.msg" <<END
+1 0
+2 38
+T 1 1 0
+T 2 1 0
+END
+    pack acts.msg <<END
+$OPEN
+issue run=3 day=401
+issue run=1 day=0
+close run=1 day=30
+close run=2 day=151
+close run=1 day=31
+issue run=1 day=30
+issue run=2 day=31
+close run=1 day=31
+close run=2 day=150
+close run=2 day=151
+issue run=2 day=151
+issue run=1 day=152
+issue run=2 day=151
+issue run=2 day=152
+issue run=1 day=152
+close run=2 day=152
+END
+    expect 'closes and issues' 0 ./run "$work/acts.msg" <<END
+1 0
+2 3
+3 38
+4 27
+5 29
+6 0
+7 5
+8 38
+9 28
+10 27
+11 0
+12 0
+13 0
+14 5
+15 39
+16 39
+17 28
 T 1 1 0
 T 2 1 0
 END
@@ -257,7 +321,7 @@ S 2 1 4 2
 END
 }
 
-# What the runs select, with its status, before and after each settle. Point 3 is activated first; point 4 has check data.
+# What the runs select, with its status, before and after each close and issue. Point 3 is activated first; point 4 has check data.
 desk_on_statuses() {
     cat >"$work/corrected.calls" <<END
 $OPEN
@@ -283,25 +347,45 @@ G 2 1 5 20
 T 2 1 1000
 END
     statuses 'settlement data, and correction settlement data' 2 4 </dev/null
-    statuses 'run 1 settled, and run 2 with it where it has no own' 3 4 <<END
-settle run=1 day=31
+    statuses 'both runs closed: the same statuses' 2 4 <<END
+close run=1 day=31
+close run=2 day=151
 END
-    statuses 'both runs settled' 3 5 <<END
-settle run=1 day=31
-settle run=2 day=151
+    statuses 'run 1 issued, and run 2 with it where it has no own' 3 4 <<END
+close run=1 day=31
+issue run=1 day=31
 END
+    statuses 'run 2 issued before run 1' 2 5 <<END
+close run=1 day=31
+close run=2 day=151
+issue run=2 day=151
+END
+    statuses 'both runs issued' 3 5 <<END
+close run=1 day=31
+issue run=1 day=32
+close run=2 day=151
+issue run=2 day=151
+END
+    # A file of closes alone, as older ones are, whose bytes are written out.
+    pack corrected.msg <"$work/corrected.calls"
+    { cat "$work/corrected.msg" && repeat 07011f07029701 1; } >"$work/older.msg"
+    expected_statuses 14 2 4 >"$work/statuses"
+    expect 'an older file: 2 and 4' 0 ./run "$work/older.msg" <"$work/statuses"
 }
 
-# statuses NAME FIRST SECOND: the month of desk_on_statuses with the calls on standard input, all accepted: statuses of the
-# versions that run 1 selects, and of those that run 2 has of its own.
+# expected_statuses CALLS FIRST SECOND: what is printed of that month with so many calls, all accepted: statuses of the versions
+# that run 1 selects, and of those that run 2 has of its own.
+expected_statuses() {
+    numbered 1 "$1" 0
+    cat "$work/figures"
+    printf 'S 1 1 7 %d\nS 1 2 1 %d\nS 2 1 7 %d\nS 2 2 2 %d\nS 2 3 1 %d\n' "$2" "$2" "$2" "$3" "$3"
+}
+
+# statuses NAME FIRST SECOND: the month of desk_on_statuses with the calls on standard input.
 statuses() {
     cat "$work/corrected.calls" - >"$work/statuses.calls"
     pack statuses.msg <"$work/statuses.calls"
-    {
-        numbered 1 "$(wc -l <"$work/statuses.calls")" 0
-        cat "$work/figures"
-        printf 'S 1 1 7 %d\nS 1 2 1 %d\nS 2 1 7 %d\nS 2 2 2 %d\nS 2 3 1 %d\n' "$2" "$2" "$2" "$3" "$3"
-    } >"$work/statuses"
+    expected_statuses "$(wc -l <"$work/statuses.calls")" "$2" "$3" >"$work/statuses"
     expect "$1" 0 ./run "$work/statuses.msg" <"$work/statuses"
 }
 
@@ -488,6 +572,7 @@ if ./run examples/empty.msg >"$work/log" 2>&1; then
     desk_on_openings
     desk_on_figures
     desk_on_notices
+    desk_on_acts
     desk_on_statuses
     desk_on_long_files
     desk_on_small_stack

@@ -51,7 +51,7 @@ impl Active {
 /// The status of a version.
 #[derive(Clone, Copy, PartialEq, Eq)]
 enum Status {
-    Check,
+    Check = 1,
     Settlement,
     Settled,
     Correction,
@@ -159,7 +159,8 @@ struct Desk<const LOOK: u8> {
     day: u64,
     groups: [u64; DELTAS],
     used: usize,
-    settled: [bool; 2],
+    closed: [bool; 2],
+    issued: [bool; 2],
     points: [Option<Active>; POINTS],
     /// The last version of each point.
     last: [Option<u16>; POINTS],
@@ -174,7 +175,8 @@ impl<const LOOK: u8> Desk<LOOK> {
             day: 0,
             groups,
             used: 0,
-            settled: [false; 2],
+            closed: [false; 2],
+            issued: [false; 2],
             points: [None; POINTS],
             last: [None; POINTS],
             count: 0,
@@ -439,7 +441,8 @@ impl<const LOOK: u8> Desk<LOOK> {
         Ok(())
     }
 
-    fn settle(&mut self, run: u64, day: u64) -> Result<(), Cause> {
+    /// The run of a close or an issue, with causes 1, 3 and 5.
+    fn run(&self, run: u64, day: u64) -> Result<Run, Cause> {
         self.look(0, 0, (0, 0, 0))?;
         let run = match run {
             1 => Run::First,
@@ -448,16 +451,29 @@ impl<const LOOK: u8> Desk<LOOK> {
         };
         refuse_if(day > LAST_DAY, Cause::BadField)?;
         refuse_if(day < self.day, Cause::PastDay)?;
-        let [_, clearing, correction] = self.opening.deadlines;
-        let (deadline, status) = match run {
-            Run::First => (clearing, Status::Settled),
-            Run::Second => (correction, Status::CorrectionSettled),
-        };
-        refuse_if(day <= deadline, Cause::SettleTooEarly)?;
-        refuse_if(self.settled[run as usize - 1], Cause::AlreadySettled)?;
-        let too_soon = run == Run::Second && !self.settled[0];
-        refuse_if(too_soon, Cause::FirstRunOpen)?;
+        Ok(run)
+    }
 
+    fn close(&mut self, run: u64, day: u64) -> Result<(), Cause> {
+        let run = self.run(run, day)?;
+        let deadline = self.opening.deadlines[run as usize];
+        refuse_if(day <= deadline, Cause::CloseTooEarly)?;
+        refuse_if(self.closed[run as usize - 1], Cause::AlreadyClosed)?;
+        let too_soon = run == Run::Second && !self.closed[0];
+        refuse_if(too_soon, Cause::FirstRunOpen)?;
+        self.closed[run as usize - 1] = true;
+        self.day = day;
+        Ok(())
+    }
+
+    fn issue(&mut self, run: u64, day: u64) -> Result<(), Cause> {
+        let run = self.run(run, day)?;
+        refuse_if(!self.closed[run as usize - 1], Cause::NotClosed)?;
+        refuse_if(self.issued[run as usize - 1], Cause::AlreadyIssued)?;
+        let status = match run {
+            Run::First => Status::Settled,
+            Run::Second => Status::CorrectionSettled,
+        };
         let mut highest = [0; POINTS];
         let versions = &mut self.versions[..self.count];
         for version in versions.iter().filter(|v| v.status.run() == Some(run)) {
@@ -470,7 +486,7 @@ impl<const LOOK: u8> Desk<LOOK> {
                 version.status = status;
             }
         }
-        self.settled[run as usize - 1] = true;
+        self.issued[run as usize - 1] = true;
         self.day = day;
         Ok(())
     }
@@ -551,7 +567,8 @@ impl<const LOOK: u8> Desk<LOOK> {
             4 => self.submit(f[0], f[1], f[2], series, stores),
             5 => self.notice(f[0], f[1], f[2], f[3], stores),
             6 => self.assign(f[0], f[1], f[2], stores),
-            _ => self.settle(f[0], f[1]),
+            7 => self.close(f[0], f[1]),
+            _ => self.issue(f[0], f[1]),
         };
         answer.map_or_else(|cause| cause as u64, |()| 0)
     }
@@ -604,7 +621,11 @@ impl<const LOOK: u8> replay::Desk for Desk<LOOK> {
         self.call(call, series, stores)
     }
 
-    fn ended(self, _: &mut [u64], _: &mut [u64]) -> (usize, usize) {
+    fn ended(&self, _: &mut [u64], _: &mut [u64], statuses: &mut [u64]) -> (usize, usize) {
+        let held = &self.versions[..self.count];
+        for (place, version) in statuses.iter_mut().zip(held) {
+            *place = version.status as u64;
+        }
         (self.used, self.count)
     }
 }

@@ -5,7 +5,7 @@ use crate::series::{BOOK_ROWS, GROUPS};
 /// Places of a summary.
 pub const SUMMARY: usize = 5;
 
-/// The stores, the series buffer, and what the answers and the summary are written to.
+/// The stores, the series buffer, and what the answers, the summary and the statuses are written to.
 #[derive(Clone)]
 pub struct Buffers {
     /// The values.
@@ -23,6 +23,8 @@ pub struct Buffers {
     /// Calls answered; the offset of the refused call, the file's length, or 0 where the answers are full; Q; log rows
     /// used; versions held.
     pub summary: Vec<u64>,
+    /// The status of each version held.
+    pub statuses: Vec<u64>,
 }
 
 impl Buffers {
@@ -37,14 +39,16 @@ impl Buffers {
             series: places(quarters),
             answers: places(calls),
             summary: places(SUMMARY),
+            statuses: places(versions),
         }
     }
 
     /// What a replay writes, by its name.
-    pub fn named(&self) -> [(&'static str, &[u64]); 7] {
+    pub fn named(&self) -> [(&'static str, &[u64]); 8] {
         [
             ("answers", &self.answers),
             ("summary", &self.summary),
+            ("statuses", &self.statuses),
             ("log", &self.log),
             ("series", &self.series),
             ("values", &self.values),

@@ -41,18 +41,22 @@ pub enum Cause {
     NotCheckData = 25,
     /// An assignment after C.
     AfterClearing = 26,
-    /// A settlement on the run's deadline or before it.
-    SettleTooEarly = 27,
-    /// The run is settled.
-    AlreadySettled = 28,
-    /// Run 2 before run 1.
+    /// A close on the run's deadline or before it.
+    CloseTooEarly = 27,
+    /// The run is closed.
+    AlreadyClosed = 28,
+    /// A close of run 2 while run 1 is not closed.
     FirstRunOpen = 29,
     /// A notice on a version below the point's highest.
     NoticeBelow = 37,
+    /// An issue of a run that is not closed.
+    NotClosed = 38,
+    /// An issue of a run that is issued.
+    AlreadyIssued = 39,
 }
 
 /// The largest number of a cause.
-pub const LAST_CAUSE: usize = Cause::NoticeBelow as usize;
+pub const LAST_CAUSE: usize = Cause::AlreadyIssued as usize;
 
 /// A refusal where the test holds.
 pub fn refuse_if(test: bool, cause: Cause) -> Result<(), Cause> {

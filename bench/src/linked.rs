@@ -4,6 +4,10 @@ use crate::buffers::{Buffers, SUMMARY};
 use emorizugu_tests::linked;
 use emorizugu_tests::replay;
 
+/// The place of a summary that has the versions held, and that of a version that has its status.
+const HELD: usize = 4;
+const STATUS: usize = 2;
+
 /// A whole message file through a fresh desk: 0, or the number of the refusal that ended it.
 pub fn replay(file: &[u8], buffers: &mut Buffers) -> u64 {
     let Buffers {
@@ -14,6 +18,7 @@ pub fn replay(file: &[u8], buffers: &mut Buffers) -> u64 {
         series,
         answers,
         summary,
+        statuses,
     } = buffers;
     let mut told = [0; replay::SUMMARY];
     let (mut points, mut versions) = ([0; replay::POINTS], [0; replay::VERSIONS]);
@@ -22,6 +27,10 @@ pub fn replay(file: &[u8], buffers: &mut Buffers) -> u64 {
     let number = linked::replay(file, stores, series, answers, tables);
     let places = summary.len().min(SUMMARY);
     summary[..places].copy_from_slice(&told[..places]);
+    let held = versions.chunks_exact(4).take(told[HELD] as usize);
+    for (place, version) in statuses.iter_mut().zip(held) {
+        *place = version[STATUS];
+    }
     number
 }
 

@@ -103,7 +103,8 @@ enum Event {
     Submit { point: usize, version: u64 },
     Notice { point: usize, verdict: u64 },
     Assign { area: u64, group: u64 },
-    Settle { run: u64 },
+    Close { run: u64 },
+    Issue { run: u64 },
 }
 
 /// The calls behind the activations, each with its day, in their order.
@@ -114,7 +115,7 @@ fn events() -> Vec<(u64, Event)> {
         let version = FIRST_VERSION;
         events.push((2 + i / 64, Event::Submit { point, version }));
         let version = FIRST_VERSION + 1;
-        // The second version by F, or after it with a notice: by C, after C, after C and run 1's settlement, negative.
+        // The second version by F, or after it with a notice: by C, after C, after C and run 1's issue, negative.
         let (day, notice) = match i % 8 {
             0 | 4 => (6 + i / 64, None),
             1 | 5 => (11 + i % 18, Some((13 + i % 18, 1))),
@@ -131,13 +132,15 @@ fn events() -> Vec<(u64, Event)> {
         let (area, group) = (2 * i, 64 - 5 * i);
         events.push((5 + 3 * i, Event::Assign { area, group }));
     }
-    events.push((35, Event::Settle { run: 1 }));
-    events.push((151, Event::Settle { run: 2 }));
+    for (run, day) in [(1, 35), (2, 151)] {
+        events.push((day, Event::Close { run }));
+        events.push((day, Event::Issue { run }));
+    }
     events.sort_by_key(|&(day, _)| day);
     events
 }
 
-/// A month: 256 points, 512 versions, 192 notices, eight assignments, both runs settled. Every call is accepted.
+/// A month: 256 points, 512 versions, 192 notices, eight assignments, both runs closed and issued. Every call is accepted.
 pub fn month(quarters: usize) -> Month {
     let mut growing = Growing::new(quarters);
     growing.open();
@@ -153,7 +156,8 @@ pub fn month(quarters: usize) -> Month {
                 growing.append(5, &[point as u64 + 1, version, verdict, day], &[]);
             }
             Event::Assign { area, group } => growing.append(6, &[area, group, day], &[]),
-            Event::Settle { run } => growing.append(7, &[run, day], &[]),
+            Event::Close { run } => growing.append(7, &[run, day], &[]),
+            Event::Issue { run } => growing.append(8, &[run, day], &[]),
         }
     }
     growing.month
@@ -245,7 +249,7 @@ impl Growing {
             0 => random.of(&[0, 99_999_999_999_999, 100_000_000_000_000]),
             _ => 1 + day / 4 + random.below(3) as u64,
         };
-        match random.below(40) {
+        match random.below(46) {
             0 => self.any_open(),
             1..=8 => {
                 let series = match random.below(3) {
@@ -267,8 +271,9 @@ impl Growing {
                 self.append(6, &[area, group, day], &[]);
             }
             _ => {
-                let run = random.of(&[0, 1, 1, 2, 2, 3]);
-                self.append(7, &[run, day], &[]);
+                let run = random.of(&[0, 1, 1, 1, 2, 2, 2, 3]);
+                let kind = random.of(&[7, 8]);
+                self.append(kind, &[run, day], &[]);
             }
         }
     }

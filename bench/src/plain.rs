@@ -46,7 +46,8 @@ struct Month<'a> {
     groups: [u64; DELTAS],
     points: [Option<Point>; POINTS],
     versions: Vec<Version<'a>>,
-    settled: [bool; 2],
+    closed: [bool; 2],
+    issued: [bool; 2],
     log: Vec<[u64; LOG_ROW]>,
 }
 
@@ -73,7 +74,8 @@ impl<'a> Month<'a> {
             groups,
             points: [None; POINTS],
             versions: Vec::with_capacity(VERSIONS),
-            settled: [false; 2],
+            closed: [false; 2],
+            issued: [false; 2],
             log: Vec::with_capacity(VERSIONS),
         }
     }
@@ -121,8 +123,12 @@ impl<'a> Month<'a> {
                 self.groups[f[0] as usize] = f[1];
                 self.day = f[2];
             }
+            7 => {
+                self.closed[f[0] as usize - 1] = true;
+                self.day = f[1];
+            }
             _ => {
-                self.settle(f[0]);
+                self.issue(f[0]);
                 self.day = f[1];
             }
         }
@@ -158,8 +164,8 @@ impl<'a> Month<'a> {
         higher.then_some(run)
     }
 
-    fn settle(&mut self, run: u64) {
-        self.settled[run as usize - 1] = true;
+    fn issue(&mut self, run: u64) {
+        self.issued[run as usize - 1] = true;
         for point in self.points.iter().flatten() {
             let (pick, status) = match run {
                 1 => (point.first, 3),
@@ -247,7 +253,8 @@ impl<'a> Month<'a> {
                 refuse_if(f[2] < self.day, Cause::PastDay)?;
                 refuse_if(f[2] > self.deadlines[1], Cause::AfterClearing)
             }
-            _ => self.check_settle(f[0], f[1]),
+            7 => self.check_close(f[0], f[1]),
+            _ => self.check_issue(f[0], f[1]),
         }
     }
 
@@ -323,15 +330,26 @@ impl<'a> Month<'a> {
         refuse_if(due && full, Cause::NoLogRow)
     }
 
-    fn check_settle(&self, run: u64, day: u64) -> Result<(), Cause> {
+    /// Causes 3 and 5 of a close or an issue.
+    fn check_run(&self, run: u64, day: u64) -> Result<(), Cause> {
         let fits = (1..=2).contains(&run) && day <= LAST_DAY;
         refuse_if(!fits, Cause::BadField)?;
-        refuse_if(day < self.day, Cause::PastDay)?;
+        refuse_if(day < self.day, Cause::PastDay)
+    }
+
+    fn check_close(&self, run: u64, day: u64) -> Result<(), Cause> {
+        self.check_run(run, day)?;
         let deadline = self.deadlines[run as usize];
-        refuse_if(day <= deadline, Cause::SettleTooEarly)?;
-        let settled = self.settled[run as usize - 1];
-        refuse_if(settled, Cause::AlreadySettled)?;
-        refuse_if(run == 2 && !self.settled[0], Cause::FirstRunOpen)
+        refuse_if(day <= deadline, Cause::CloseTooEarly)?;
+        let closed = self.closed[run as usize - 1];
+        refuse_if(closed, Cause::AlreadyClosed)?;
+        refuse_if(run == 2 && !self.closed[0], Cause::FirstRunOpen)
+    }
+
+    fn check_issue(&self, run: u64, day: u64) -> Result<(), Cause> {
+        self.check_run(run, day)?;
+        refuse_if(!self.closed[run as usize - 1], Cause::NotClosed)?;
+        refuse_if(self.issued[run as usize - 1], Cause::AlreadyIssued)
     }
 }
 
@@ -392,14 +410,17 @@ impl replay::Desk for Desk {
         answer.map_or_else(|cause| cause as u64, |()| 0)
     }
 
-    fn ended(self, values: &mut [u64], log: &mut [u64]) -> (usize, usize) {
+    fn ended(&self, values: &mut [u64], log: &mut [u64], statuses: &mut [u64]) -> (usize, usize) {
         let Some(month) = Month::of(&self.list) else {
             return (0, 0);
         };
         for (place, row) in log.chunks_exact_mut(LOG_ROW).zip(&month.log) {
             place.copy_from_slice(row);
         }
-        let quarters = replay::Desk::quarters(&self) as usize;
+        for (place, version) in statuses.iter_mut().zip(&month.versions) {
+            *place = version.status;
+        }
+        let quarters = replay::Desk::quarters(self) as usize;
         for (place, version) in values.chunks_exact_mut(quarters).zip(&month.versions) {
             place.copy_from_slice(version.series);
         }

@@ -38,8 +38,9 @@ pub trait Desk {
     /// A call with its energies: its answer's number.
     fn handed(&mut self, call: &Call, series: &[u64], stores: &mut Stores) -> u64;
 
-    /// Log rows used and versions held at the end; what the desk writes only then goes to values and log.
-    fn ended(self, values: &mut [u64], log: &mut [u64]) -> (usize, usize);
+    /// Log rows used and versions held at the end, and the versions' statuses; what else the desk writes only then goes to
+    /// values and log.
+    fn ended(&self, values: &mut [u64], log: &mut [u64], statuses: &mut [u64]) -> (usize, usize);
 }
 
 /// A whole message file through a fresh desk: 0, or the number of the refusal that ended it.
@@ -52,6 +53,7 @@ pub fn replay(mut desk: impl Desk, file: &[u8], buffers: &mut Buffers) -> u64 {
         series,
         answers,
         summary,
+        statuses,
     } = buffers;
     if summary.len() < SUMMARY {
         return 2;
@@ -86,7 +88,7 @@ pub fn replay(mut desk: impl Desk, file: &[u8], buffers: &mut Buffers) -> u64 {
         at = call.next;
     };
     let quarters = desk.quarters();
-    let (used, held) = desk.ended(values, log);
+    let (used, held) = desk.ended(values, log, statuses);
     let told = [answered as u64, at, quarters, used as u64, held as u64];
     summary[..SUMMARY].copy_from_slice(&told);
     result

@@ -10,12 +10,13 @@ use emorizugu_tests::message::{Call, MOST_FIELDS};
 const HEAD: usize = 5;
 
 /// Numbers of a record by what it is, energies apart; 0 for what is no call.
-const SIZES: [usize; 12] = [0, 26, 10, 7, 9, 9, 8, 0, 0, 7, 8, 7];
+const SIZES: [usize; 13] = [0, 26, 10, 7, 9, 9, 8, 0, 0, 7, 8, 7, 7];
 
 const SUBMIT: u64 = 4;
-const SETTLE: u64 = 9;
+const CLOSE: u64 = 9;
 const LODGE: u64 = 10;
 const REPORT: u64 = 11;
+const ISSUE: u64 = 12;
 
 /// A desk that schedules are lodged with, and that reports.
 pub trait Desk: replay::Desk {
@@ -97,7 +98,11 @@ fn answer(desk: &mut impl Desk, record: &[u64], stores: &mut Stores, out: &mut [
         _ => {
             let used = SIZES[op as usize] - HEAD;
             let mut call = Call {
-                kind: if op == SETTLE { 7 } else { op },
+                kind: match op {
+                    CLOSE => 7,
+                    ISSUE => 8,
+                    _ => op,
+                },
                 fields: [0; MOST_FIELDS],
                 count: 0,
                 next: 0,

@@ -17,6 +17,7 @@ pub enum Command {
     Figures,
     Log,
     Points,
+    Runs,
     Report,
     Page,
     Pack,
@@ -77,7 +78,7 @@ impl Wanted {
 const DEADLINES: [&str; 3] = ["--first", "--clearing", "--correction"];
 
 /// The commands by name, each with the options that it takes.
-pub const COMMANDS: [(&str, Command, &[&str]); 12] = [
+pub const COMMANDS: [(&str, Command, &[&str]); 13] = [
     ("run", Command::Run, &["--month"]),
     (
         "figures",
@@ -93,6 +94,11 @@ pub const COMMANDS: [(&str, Command, &[&str]); 12] = [
         "points",
         Command::Points,
         &["--csv", "--json", "--run", "--group", "--month"],
+    ),
+    (
+        "runs",
+        Command::Runs,
+        &["--csv", "--json", "--run", "--month"],
     ),
     (
         "report",

@@ -15,7 +15,8 @@ pub const DEACTIVATE: u64 = 3;
 pub const SUBMIT: u64 = 4;
 pub const NOTICE: u64 = 5;
 pub const ASSIGN: u64 = 6;
-pub const SETTLE: u64 = 7;
+pub const CLOSE: u64 = 7;
+pub const ISSUE: u64 = 8;
 
 /// The delta groups' fields of an opening: the transmission operator's and the areas'.
 pub const DELTAS: [&str; 17] = [
@@ -28,8 +29,8 @@ pub struct Kind {
     pub fields: &'static [&'static str],
 }
 
-/// Kinds 1 to 7.
-pub const KINDS: [Kind; 7] = [
+/// Kinds 1 to 8.
+pub const KINDS: [Kind; 8] = [
     Kind {
         name: "open",
         fields: &[
@@ -77,7 +78,11 @@ pub const KINDS: [Kind; 7] = [
         fields: &["area", "group", "day"],
     },
     Kind {
-        name: "settle",
+        name: "close",
+        fields: &["run", "day"],
+    },
+    Kind {
+        name: "issue",
         fields: &["run", "day"],
     },
 ];
@@ -219,7 +224,7 @@ impl Call {
             OPEN => &["quarters"],
             SUBMIT | NOTICE => &["point", "version"],
             ASSIGN => &["area", "group"],
-            SETTLE => &["run"],
+            CLOSE | ISSUE => &["run"],
             _ => &["point"],
         };
         let shown = |name: &str| match (name, self.field(name)) {

@@ -11,18 +11,19 @@ struct Help {
     example: &'static str,
 }
 
-const HELPS: [Help; 12] = [
+const HELPS: [Help; 13] = [
     Help {
         name: "run",
         usage: "desk run FILE [--month YYYY-MM]",
         short: "run a month: what was refused and why, then the month in short",
         body: "FILE is text (one call a line) or a message file, told apart by content, of any length; - is standard input.\n\
             Each refused call is named with its line and number, the cause, and what would mend it. Then come how many calls were\n\
-            answered and refused, the desk's day, which runs are settled, the selections that changed, and each group's month:\n\
-            the sum of run 1, of run 2, and run 2 less run 1, in watt-hours.\n\
-            Last comes what is settled: for each run how many of the versions that it selects, and for each active point its series, in\n\
-            which runs what is selected is settled (both, run 1, run 2, no; - where nothing is selected; what run 2 has from run 1 is\n\
-            settled there with run 2), what each run selects with its status (as run 1: run 2 has none of its own), and its other\n\
+            answered and refused, the desk's day, which runs are closed and issued, the selections that changed, and each group's\n\
+            month: the sum of run 1, of run 2, and run 2 less run 1, in watt-hours.\n\
+            Last comes what is settled: for each run whether and when it was closed and issued, and how many of the versions that it\n\
+            selects are settled; where it is closed alone, the call that sends its statuses. For each active point its series, in which\n\
+            runs what is selected is settled (both, run 1, run 2, no; - where nothing is selected; what run 2 has from run 1 is settled\n\
+            there once both are issued), what each run selects with its status (as run 1: run 2 has none of its own), and its other\n\
             versions with their statuses, the highest first; where a line has no room for them, how many there are of each status.\n\
             Where the month is known, each day is shown with its date: by a line `month YYYY-MM` of the text (desk pack --help), or by\n\
             --month, for a message file and for a text without that line.",
@@ -60,6 +61,17 @@ const HELPS: [Help; 12] = [
         example: "desk points examples/month.calls",
     },
     Help {
+        name: "runs",
+        usage: "desk runs FILE [--run N] [--month YYYY-MM] [--csv | --json]",
+        short: "each run: whether and when it was closed and issued, and how many of its versions are settled",
+        body: "A run is closed once behind its deadline, and issued once after that; issue sends the statuses: what the run selects is then\n\
+            settled. --run picks a run, --month names the settled month.\n\
+            Columns: run, closed (yes or no), closed_day, closed_date (empty where it is not closed; the date also where the month is not\n\
+            known, or the day has none), issued, issued_day, issued_date (the same), selected (how many versions the run selects), settled\n\
+            (how many of them are settled or correction settled). A desk that is not open has no row.",
+        example: "desk runs examples/july.calls --json",
+    },
+    Help {
         name: "report",
         usage: "desk report FILE SCHEDULES [--run N] [--group N] [--all] [--month YYYY-MM] [--csv | --json]",
         short: "each group's surplus and shortfall over the month, by its schedule",
@@ -88,7 +100,8 @@ const HELPS: [Help; 12] = [
         usage: "desk page FILE [--schedules SCHEDULES] [--month YYYY-MM] [-o PAGE]",
         short: "the month as one page for a browser, with no outside parts",
         body: "The month's totals, a heat map of groups over quarter hours for each run, a group's curve on click, the deltas, what each run\n\
-            selects with its status and whether it is settled, points and their versions, refused calls, and the log as a timeline.\n\
+            selects with its status and whether it is settled, whether and when each run was closed and issued, points and their versions,\n\
+            refused calls, and the log as a timeline.\n\
             --schedules names a text of schedules (desk report --help): surplus and shortfall of each group in both runs are then drawn and\n\
             listed, with both sides of their sum, and the schedule stands beside a group's curve.\n\
             --month names the settled month, so that days have dates.",
@@ -107,7 +120,8 @@ const HELPS: [Help; 12] = [
             submit point=2 version=1 day=2 unit=kWh energies=@p2.csv:energy\n\
             notice point=1 version=1 verdict=positive day=30\n\
             assign area=T group=5 day=30\n\
-            settle run=1 day=31\n\
+            close run=1 day=31\n\
+            issue run=1 day=31\n\
             \n\
             An opening names the delta groups of T and of areas 1 to 16; others stands for those that are not named.\n\
             Names for numbers: kind exchange (1), group-sum (2), area-sum (3), operator-sum (4), delta-transfer (5); verdict\n\

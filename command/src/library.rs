@@ -22,8 +22,8 @@ const POINT_PLACES: usize = 9;
 /// The places of a version: point, version, status, row of values.
 const VERSION_PLACES: usize = 4;
 /// The places of a replay's summary: calls answered, offset, quarter hours, log rows, versions held, calls refused, the
-/// first of them, the day, run 1 settled, run 2 settled.
-const SUMMARY: usize = 10;
+/// first of them, the day, run 1 closed, run 2 closed, run 1 issued, run 2 issued.
+const SUMMARY: usize = 12;
 
 /// A call as it was read.
 pub struct ReadCall {
@@ -171,7 +171,7 @@ pub struct Version {
 }
 
 impl Version {
-    /// Whether it is settled, by run 1 (status 3) or by run 2 (5).
+    /// Whether it is settled: run 1 was issued while it was selected (status 3), or run 2 (5).
     pub fn is_settled(&self) -> bool {
         matches!(self.status, 3 | 5)
     }
@@ -201,7 +201,9 @@ pub struct Replay {
     pub quarters: usize,
     pub refused: u64,
     pub day: u64,
-    pub settled: [bool; 2],
+    /// Run 1 and run 2: whether it is closed, and whether its statuses are issued.
+    pub closed: [bool; 2],
+    pub issued: [bool; 2],
     /// The active points, in rising order.
     pub points: Vec<Point>,
     /// The versions, by point and then by version.
@@ -284,7 +286,8 @@ impl Lent {
 pub fn replay(file: &[u8], calls: usize) -> Replay {
     let mut lent = Lent::new(calls);
     let ending = lent.run(file);
-    let [answered, offset, quarters, logged, held, refused, _, day, first, second] = lent.summary;
+    let [answered, offset, quarters, logged, held, refused, _, day, acts @ ..] = lent.summary;
+    let [closed_1, closed_2, issued_1, issued_2] = acts.map(|flag| flag == 1);
     let quarters = quarters as usize;
     lent.answers.truncate(answered as usize);
     lent.log.truncate(4 * logged as usize);
@@ -298,7 +301,8 @@ pub fn replay(file: &[u8], calls: usize) -> Replay {
         quarters,
         refused,
         day,
-        settled: [first == 1, second == 1],
+        closed: [closed_1, closed_2],
+        issued: [issued_1, issued_2],
         points: active(&lent.points),
         versions: held_in_order(&lent.versions),
         log: log_rows(&lent.log),

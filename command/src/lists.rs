@@ -1,8 +1,8 @@
-//! `desk figures`, `desk log` and `desk points`. Each list has one order in every form: figures by run, quarter hour and group; the log as it was
-//! written; points by number, and a point's versions by version. What is picked stays in that order.
+//! `desk figures`, `desk log`, `desk points` and `desk runs`. Each list has one order in every form: figures by run, quarter hour and group; the log as it
+//! was written; points by number, and a point's versions by version; runs by number. What is picked stays in that order.
 
 use crate::arguments::Wanted;
-use crate::calls::{name_in, yes, SERIES, STATUSES};
+use crate::calls::{name_in, yes, CLOSE, ISSUE, SERIES, STATUSES};
 use crate::library::{Point, Version, GROUPS};
 use crate::month::{self, Ran};
 use crate::output::{self, Failure};
@@ -163,6 +163,50 @@ pub fn points(wanted: &Wanted) -> Result<i32, Failure> {
         versions
             .filter(counts)
             .for_each(|version| point_row(&mut sheet, &ran, point, Some(version)));
+    }
+    told(&ran, sheet)
+}
+
+const RUNS: &[Column] = &[
+    Column("run", 3),
+    Column("closed", -6),
+    Column("closed_day", 10),
+    Column("closed_date", -11),
+    Column("issued", -6),
+    Column("issued_day", 10),
+    Column("issued_date", -11),
+    Column("selected", 8),
+    Column("settled", 7),
+];
+
+fn run_row(sheet: &mut Sheet, ran: &Ran, run: u64) {
+    let (replay, at) = (&ran.replay, run as usize - 1);
+    let selected = || replay.points.iter().filter_map(|point| point.selected[at]);
+    let settled = selected().filter(Version::is_settled);
+    let [closed, issued] = [CLOSE, ISSUE].map(|kind| ran.day_of(kind, run));
+    let [closed_date, issued_date] =
+        [closed, issued].map(|day| day.map_or(String::new(), |day| ran.date(day)));
+    let day = |day: Option<u64>| day.map_or(Cell::Nothing, number);
+    sheet.row(&[
+        number(run),
+        Cell::Word(yes(replay.closed[at])),
+        day(closed),
+        date(&closed_date),
+        Cell::Word(yes(replay.issued[at])),
+        day(issued),
+        date(&issued_date),
+        number(selected().count() as u64),
+        number(settled.count() as u64),
+    ]);
+}
+
+/// Each run of a desk that is open: whether and when it was closed and issued, how many versions it selects, how many of them are settled.
+pub fn runs(wanted: &Wanted) -> Result<i32, Failure> {
+    let ran = month::run(wanted)?;
+    let mut sheet = Sheet::new(wanted.form, RUNS);
+    let is_asked = |run: &u64| wanted.run.is_none_or(|asked| asked == *run);
+    for run in (1..=2).filter(is_asked).filter(|_| ran.replay.quarters > 0) {
+        run_row(&mut sheet, &ran, run);
     }
     told(&ran, sheet)
 }

@@ -61,6 +61,7 @@ fn perform(wanted: &Wanted) -> Result<i32, Failure> {
         Command::Figures => lists::figures(wanted),
         Command::Log => lists::log(wanted),
         Command::Points => lists::points(wanted),
+        Command::Runs => lists::runs(wanted),
         Command::Report => report::report(wanted),
         Command::Page => page::write(wanted),
         Command::Pack => text::pack(wanted),

@@ -2,6 +2,7 @@
 
 use crate::arguments::Wanted;
 use crate::calendar;
+use crate::calls::Call;
 use crate::input::{self, Month};
 use crate::library::{self, Replay};
 use crate::output::{self, Failure};
@@ -38,6 +39,21 @@ impl Ran {
     /// The date of a day as lists show it; empty where there is none.
     pub fn date(&self, day: u64) -> String {
         calendar::dated(self.month.settled, day).map_or(String::new(), |date| date.to_string())
+    }
+
+    /// The desk's day as a text may have it: its date where there is one, else its number.
+    pub fn today(&self) -> String {
+        let day = self.replay.day;
+        calendar::dated(self.month.settled, day).map_or(day.to_string(), |date| date.to_string())
+    }
+
+    /// The day on which a run was closed or issued: that of the accepted call of this kind.
+    pub fn day_of(&self, kind: u64, run: u64) -> Option<u64> {
+        let mut calls = self.month.calls.iter().zip(&self.replay.answers);
+        let accepted = |(call, answer): &(&Call, &u64)| {
+            **answer == 0 && call.kind == kind && call.field("run") == run
+        };
+        calls.find(accepted).map(|(call, _)| call.field("day"))
     }
 
     /// What is wrong with the file.

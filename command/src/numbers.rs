@@ -50,12 +50,17 @@ impl Limits {
     }
 }
 
-/// A word as complaints quote it, cut where it is long.
-pub fn quoted(word: &str) -> String {
+/// A word as complaints show it, cut where it is long.
+pub fn shortened(word: &str) -> String {
     let short: String = word.chars().take(32).collect();
     let end = if short.len() < word.len() { ".." } else { "" };
     let plain = short.escape_debug().to_string().replace("\\'", "'");
-    format!("'{plain}{end}'")
+    format!("{plain}{end}")
+}
+
+/// A word as complaints quote it.
+pub fn quoted(word: &str) -> String {
+    format!("'{}'", shortened(word))
 }
 
 /// Whether a word is digits in groups of three with marks between.

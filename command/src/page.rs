@@ -123,9 +123,14 @@ fn selected(replay: &Replay) -> String {
     replay.points.iter().map(row).collect()
 }
 
-/// How much of what each run selects is settled, a line a run.
-fn shares(replay: &Replay) -> String {
-    let line = |run: u64| format!("<p>{}</p>\n", escaped(&selections::share(replay, run)));
+/// Whether each run is closed and issued, when, and how much of what it selects is settled: a paragraph a run.
+fn shares(ran: &Ran) -> String {
+    let faint = |note: String| format!("<br><span class=\"faint\">{}</span>", escaped(&note));
+    let line = |run: u64| {
+        let share = escaped(&selections::share(&ran.replay, run));
+        let note = selections::note(ran, run).map_or(String::new(), faint);
+        format!("<p>{share}{note}</p>\n")
+    };
     (1..=2).map(line).collect()
 }
 
@@ -328,7 +333,7 @@ fn page(ran: &Ran, reports: Option<&Reports>) -> String {
         ("key", key.to_string()),
         ("deviation", part.unwrap_or_default()),
         ("deltas", deltas(replay)),
-        ("shares", shares(replay)),
+        ("shares", shares(ran)),
         ("selected", selected(replay)),
         ("points", points(ran)),
         ("deadlines", deadlines_told(ran)),

@@ -4,7 +4,7 @@ use std::collections::{BTreeMap, HashMap};
 
 use crate::calendar::{self, Month};
 use crate::calls::{
-    counted, Call, ACTIVATE, ASSIGN, DEACTIVATE, MOST_ENERGY, NOTICE, OPEN, SETTLE, SUBMIT,
+    counted, Call, ACTIVATE, ASSIGN, CLOSE, DEACTIVATE, ISSUE, MOST_ENERGY, NOTICE, OPEN, SUBMIT,
 };
 use crate::causes;
 use crate::library::{Reader, VERSIONS};
@@ -44,7 +44,8 @@ struct Before<'a> {
     freed: HashMap<u64, &'a Call>,
     submitted: HashMap<(u64, u64), &'a Call>,
     noticed: HashMap<(u64, u64), &'a Call>,
-    settled: HashMap<u64, &'a Call>,
+    closed: HashMap<u64, &'a Call>,
+    issued: HashMap<u64, &'a Call>,
     /// The last refused call of a kind on a point and a version, or of a run, with its number.
     refused: HashMap<(u64, u64, u64), (&'a Call, u64)>,
 }
@@ -52,10 +53,10 @@ struct Before<'a> {
 /// A refusal's words: why, what would mend it, the call that it comes from.
 type Words<'a> = (String, String, Option<&'a Call>);
 
-/// A call's point and version, where it has them; a settlement's run; elsewhere 0.
+/// A call's point and version, where it has them; the run that is closed or issued; elsewhere 0.
 fn about(call: &Call) -> (u64, u64) {
     match call.kind {
-        SETTLE => (call.field("run"), 0),
+        CLOSE | ISSUE => (call.field("run"), 0),
         _ => (call.field("point"), call.field("version")),
     }
 }
@@ -78,8 +79,11 @@ impl<'a> Before<'a> {
             NOTICE if call.field("verdict") == 1 => {
                 self.noticed.insert((point, version), call);
             }
-            SETTLE => {
-                self.settled.insert(call.field("run"), call);
+            CLOSE => {
+                self.closed.insert(call.field("run"), call);
+            }
+            ISSUE => {
+                self.issued.insert(call.field("run"), call);
             }
             _ => {}
         }
@@ -132,47 +136,65 @@ impl<'a> Before<'a> {
             21 | 22 | 12 | 23 | 13 => self.bad_point(call, number).unwrap_or_else(fallback),
             14 | 15 => self.bad_version(call, number).unwrap_or_else(fallback),
             24 | 37 | 25 => self.bad_notice(call, number).unwrap_or_else(fallback),
-            28 => {
-                let run = call.field("run");
-                let by = self.settled.get(&run).copied();
-                (
-                    format!(
-                        "{} settled run {run}",
-                        by.map_or(String::new(), |by| by.place.short())
-                    ),
-                    causes::mend(28),
-                    by,
-                )
-            }
+            28 | 39 => self.done_already(call, number).unwrap_or_else(fallback),
+            29 => self.not_closed(1, call),
+            38 => self.not_closed(call.field("run"), call),
             // The command lends room for as many as a desk holds.
             16 => (
                 format!("{VERSIONS} versions are held, as many as a desk holds"),
                 causes::mend(16),
                 None,
             ),
-            29 => self.run_open(),
             _ => fallback(),
         }
     }
 
-    fn run_open(&self) -> Words<'a> {
-        match self.refused.get(&(SETTLE, 1, 0)) {
+    /// A run that is closed a second time (28), or issued (39).
+    fn done_already(&self, call: &Call, number: u64) -> Option<Words<'a>> {
+        let run = call.field("run");
+        let (calls, done) = if number == 28 {
+            (&self.closed, "closed")
+        } else {
+            (&self.issued, "issued")
+        };
+        let by = calls.get(&run).copied()?;
+        let why = format!("{} {done} run {run}", by.place.short());
+        Some((why, causes::mend(number), Some(by)))
+    }
+
+    /// A run that a call needs closed, and that is not.
+    fn not_closed(&self, run: u64, call: &Call) -> Words<'a> {
+        match self.refused.get(&(CLOSE, run, 0)) {
             Some((by, number)) => {
                 let place = by.place.short();
                 (
-                    format!(
-                        "run 1 is not settled: its settlement in {place} was refused, {number}"
-                    ),
+                    format!("run {run} is not closed: its close in {place} was refused, {number}"),
                     format!("correct {place}"),
                     Some(by),
                 )
             }
             None => (
-                "run 1 is not settled yet".to_string(),
-                "put `settle run=1` in front of it".to_string(),
+                format!("run {run} is not closed yet"),
+                self.to_close(run, call),
                 None,
             ),
         }
+    }
+
+    /// What closes a run in front of a call, run 1 before run 2, and from which day on.
+    fn to_close(&self, run: u64, call: &Call) -> String {
+        let missing = (1..=run).filter(|run| !self.closed.contains_key(run));
+        let closes: Vec<String> = missing.map(|run| format!("`close run={run}`")).collect();
+        let behind = self.opening(deadline_of(run).0) + 1;
+        let least = self.day.map_or(0, |by| by.field("day")).max(behind);
+        // The call's own day is then too early as well.
+        let on = match (call.field("day") < least, closes.len()) {
+            (false, _) => "on",
+            (true, 1) => "both on",
+            _ => "all on",
+        };
+        let (closes, least) = (closes.join(" and "), self.shown(least));
+        format!("put {closes} in front of it, {on} day {least} or later")
     }
 
     fn not_open(&self) -> Words<'a> {
@@ -195,9 +217,10 @@ impl<'a> Before<'a> {
 
     fn bad_day(&self, call: &'a Call, number: u64) -> Words<'a> {
         let day = call.field("day");
-        let (deadline, name) = match (number, call.field("run")) {
-            (11, _) | (27, 2) => ("correction", "correction deadline"),
-            _ => ("clearing", "clearing deadline"),
+        let (deadline, name) = match number {
+            11 => deadline_of(2),
+            27 => deadline_of(call.field("run")),
+            _ => deadline_of(1),
         };
         let limit = self.opening(deadline);
         let opening = self.opened.map(|call| call.place);
@@ -207,11 +230,7 @@ impl<'a> Before<'a> {
             27 => {
                 let why = format!("day {given} does not lie behind the {name}, day {last}");
                 let (run, next) = (call.field("run"), self.shown(limit + 1));
-                (
-                    why,
-                    format!("settle run {run} on day {next} or later"),
-                    None,
-                )
+                (why, format!("close run {run} on day {next} or later"), None)
             }
             _ => {
                 let why = format!("day {given} lies behind the {name}, day {last}");
@@ -247,21 +266,7 @@ impl<'a> Before<'a> {
                     by,
                 )
             }
-            22 => {
-                let series = |call: &Call| ["kind", "area", "partner"].map(|name| call.field(name));
-                let same = self
-                    .active
-                    .values()
-                    .find(|other| series(other) == series(call))
-                    .copied()?;
-                let (other, place) = (same.field("point"), same.place.short());
-                let why = format!("point {other} has the same kind, area and partner ({place})");
-                (
-                    why,
-                    format!("use point {other}, or correct kind, area or partner"),
-                    Some(same),
-                )
-            }
+            22 => self.same_series(call)?,
             12 => self.not_active(point),
             23 => {
                 let kept = self.highest(point)?;
@@ -284,6 +289,18 @@ impl<'a> Before<'a> {
                 (why, format!("submit on day {least} or later"), by)
             }
         })
+    }
+
+    fn same_series(&self, call: &Call) -> Option<Words<'a>> {
+        let series = |call: &Call| ["kind", "area", "partner"].map(|name| call.field(name));
+        let mut active = self.active.values().copied();
+        let same = active.find(|other| series(other) == series(call))?;
+        let (other, place) = (same.field("point"), same.place.short());
+        Some((
+            format!("point {other} has the same kind, area and partner ({place})"),
+            format!("use point {other}, or correct kind, area or partner"),
+            Some(same),
+        ))
     }
 
     fn not_active(&self, point: u64) -> Words<'a> {
@@ -466,6 +483,14 @@ impl<'a> Before<'a> {
             return (causes::meaning(4), causes::mend(4), None);
         }
         (wrong.join("; "), "correct what is named".to_string(), None)
+    }
+}
+
+/// A run's deadline: its field in an opening, and its name.
+fn deadline_of(run: u64) -> (&'static str, &'static str) {
+    match run {
+        2 => ("correction", "correction deadline"),
+        _ => ("clearing", "clearing deadline"),
     }
 }
 

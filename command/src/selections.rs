@@ -1,8 +1,9 @@
-//! What each run selects at each point, with its status, and whether that is settled: for `desk run` and the page. Versions and statuses are the
-//! library's; run 2's selection is its own where its status is one of a correction, else run 1's.
+//! What each run selects at each point, with its status, and whether that is settled; which runs are closed and issued: for `desk run` and the page.
+//! Versions and statuses are the library's; run 2's selection is its own where its status is one of a correction, else run 1's.
 
-use crate::calls::{counted, name_in, SERIES, STATUSES};
+use crate::calls::{counted, name_in, CLOSE, ISSUE, SERIES, STATUSES};
 use crate::library::{Point, Replay, Version};
+use crate::month::Ran;
 
 /// A point's series: its kind, with area and partner as that kind has them.
 pub fn series(point: &Point) -> String {
@@ -40,11 +41,11 @@ pub fn status(run: u64, version: &Version) -> String {
     format!("{}{mark}", name_in(&STATUSES, version.status))
 }
 
-/// In which runs what is selected is settled; a dash where no run selects anything. What run 2 has from run 1 is settled there with run 2: until
-/// then a correction may take its place.
+/// In which runs what is selected is settled; a dash where no run selects anything. What run 2 has from run 1 is settled there when both are issued:
+/// it has its status from run 1, and up to the correction deadline a correction may take its place.
 pub fn settled(replay: &Replay, point: &Point) -> &'static str {
     let settled = |at: usize| {
-        replay.settled[at] && point.selected[at].is_some_and(|version| version.is_settled())
+        replay.issued[at] && point.selected[at].is_some_and(|version| version.is_settled())
     };
     match (settled(0), settled(1)) {
         (true, true) => "both",
@@ -83,7 +84,17 @@ fn tallied(versions: &[&Version]) -> String {
     words.join(", ")
 }
 
-/// How much of what a run selects is settled.
+/// Whether a run is closed and issued, in words; one that is issued is closed.
+pub fn state(replay: &Replay, run: u64) -> &'static str {
+    let at = run as usize - 1;
+    match (replay.closed[at], replay.issued[at]) {
+        (true, true) => "issued",
+        (true, false) => "closed, not issued",
+        _ => "not closed",
+    }
+}
+
+/// Whether a run is closed and issued, and how much of what it selects is settled.
 pub fn share(replay: &Replay, run: u64) -> String {
     let at = run as usize - 1;
     let selected: Vec<Version> = replay
@@ -91,8 +102,7 @@ pub fn share(replay: &Replay, run: u64) -> String {
         .iter()
         .filter_map(|point| point.selected[at])
         .collect();
-    let state = if replay.settled[at] { "" } else { "not " };
-    let start = format!("run {run} is {state}settled");
+    let start = format!("run {run} is {}", state(replay, run));
     if selected.is_empty() {
         return format!("{start}: no version selected");
     }
@@ -104,6 +114,20 @@ pub fn share(replay: &Replay, run: u64) -> String {
         sources(run, &selected),
         missing(replay.points.len() - selected.len())
     )
+}
+
+/// When a run was closed and issued, and what is next where it is closed alone; nothing where it is not closed.
+pub fn note(ran: &Ran, run: u64) -> Option<String> {
+    let day_of = |kind| ran.day_of(kind, run).map(|day| ran.day(day));
+    let closed = day_of(CLOSE)?;
+    let rest = match day_of(ISSUE) {
+        Some(issued) => format!(", issued on day {issued}"),
+        None => format!(
+            "; to send its statuses: issue run={run} day={}, or a later day",
+            ran.today()
+        ),
+    };
+    Some(format!("closed on day {closed}{rest}"))
 }
 
 /// How many of run 2's selected versions are its own.

@@ -193,8 +193,9 @@ fn groups(replay: &Replay, paint: &Paint) -> String {
     text
 }
 
-/// What each run selects and whether it is settled: a line a run, then a line a point.
-fn selected(replay: &Replay, paint: &Paint) -> String {
+/// Whether each run is closed and issued, what it selects and whether that is settled: a line or two a run, then a line a point.
+fn selected(ran: &Ran, paint: &Paint) -> String {
+    let replay = &ran.replay;
     if replay.points.is_empty() {
         return String::new();
     }
@@ -202,6 +203,9 @@ fn selected(replay: &Replay, paint: &Paint) -> String {
     for run in 1..=2 {
         text.push_str(&paint.bold(&selections::share(replay, run)));
         text.push('\n');
+        if let Some(note) = selections::note(ran, run) {
+            text.push_str(&format!("    {note}\n"));
+        }
     }
     text.push('\n');
     for (at, mut line) in selections::table(replay).into_iter().enumerate() {
@@ -220,12 +224,16 @@ fn selected(replay: &Replay, paint: &Paint) -> String {
     text
 }
 
-fn settled(replay: &Replay) -> &'static str {
-    match replay.settled {
-        [false, false] => "no run settled",
-        [true, false] => "run 1 settled",
-        [false, true] => "run 2 settled",
-        [true, true] => "runs 1 and 2 settled",
+/// Which runs are closed and issued.
+fn runs(replay: &Replay) -> String {
+    let [first, second] = [1, 2].map(|run| selections::state(replay, run));
+    if first != second {
+        return format!("run 1 {first}; run 2 {second}");
+    }
+    if replay.closed[0] {
+        format!("runs 1 and 2 {first}")
+    } else {
+        "no run closed".to_string()
     }
 }
 
@@ -244,7 +252,7 @@ pub fn headline(ran: &Ran) -> String {
     format!(
         "{calls}, {refused}; day {}; {}; {}",
         ran.day(replay.day),
-        settled(replay),
+        runs(replay),
         count(replay.quarters, "quarter hour")
     )
 }
@@ -280,7 +288,7 @@ pub fn run(wanted: &Wanted) -> Result<i32, Failure> {
     if ran.replay.quarters > 0 {
         text.push_str(&changed(&ran));
         text.push_str(&groups(&ran.replay, &paint));
-        text.push_str(&selected(&ran.replay, &paint));
+        text.push_str(&selected(&ran, &paint));
     }
     output::write(text.as_bytes())?;
     Ok(status)

@@ -9,7 +9,7 @@ use crate::calls::{is_day, Call, Place, KINDS, OPEN, SUBMIT};
 use crate::dates::Dates;
 use crate::library::{self, Read, Reader};
 use crate::lines::{self, unit_of, Given};
-use crate::numbers::{self, quoted, Limits};
+use crate::numbers::{self, quoted, shortened, Limits};
 use crate::output::{self, Failure};
 use crate::series::Files;
 use crate::{causes, input, ACCEPTED, NOTHING, REFUSED};
@@ -55,15 +55,37 @@ fn submission(
     Ok((fields, energies))
 }
 
+/// What is to be written for `settle`, with the run and the day of its line. A date there is one of the text's.
+fn settle(words: &[&str], dates: &mut Dates) -> String {
+    let given = Given::read("settle", words);
+    let given = given.and_then(|given| given.words(&["run", "day"], None, ""));
+    let fields = match given.as_deref() {
+        Ok([run, day]) => {
+            dates.number("day", day);
+            format!("run={} day={}", shortened(run), shortened(day))
+        }
+        _ => "run=.. day=..".to_string(),
+    };
+    format!("settle is two calls: write `close {fields}` and, when the statuses are to be sent, `issue {fields}`")
+}
+
+/// A word that is no call.
+fn no_call(words: &[&str], dates: &mut Dates) -> String {
+    if words[0] == "settle" {
+        return settle(&words[1..], dates);
+    }
+    let names: Vec<&str> = KINDS.iter().map(|kind| kind.name).collect();
+    format!(
+        "there is no call {}; calls are {}",
+        quoted(words[0]),
+        names.join(", ")
+    )
+}
+
 /// A line's call and its energies.
 fn call_of(words: &[&str], around: &mut Around) -> Result<(u64, Vec<u64>, Vec<u64>), String> {
     let Some(at) = KINDS.iter().position(|kind| kind.name == words[0]) else {
-        let names: Vec<&str> = KINDS.iter().map(|kind| kind.name).collect();
-        return Err(format!(
-            "there is no call {}; calls are {}",
-            quoted(words[0]),
-            names.join(", ")
-        ));
+        return Err(no_call(words, &mut around.dates));
     };
     let (kind, form) = (at as u64 + 1, &KINDS[at]);
     let mut given = Given::read(form.name, &words[1..])?;

@@ -1,4 +1,4 @@
-//! The eleven calls, with their fields as a caller hands them over: any 64-bit numbers.
+//! The twelve calls, with their fields as a caller hands them over: any 64-bit numbers.
 
 use std::fmt;
 
@@ -52,7 +52,7 @@ pub enum Call {
         point: u64,
         version: u64,
     },
-    Settle {
+    Close {
         run: u64,
         day: u64,
     },
@@ -65,10 +65,14 @@ pub enum Call {
         run: u64,
         group: u64,
     },
+    Issue {
+        run: u64,
+        day: u64,
+    },
 }
 
 /// The calls' names and the names of their fields, in the order of the papers.
-const NAMES: [(&str, &[&str]); 11] = [
+const NAMES: [(&str, &[&str]); 12] = [
     ("open", &["Q", "F", "C", "K"]),
     ("activate", &["point", "kind", "area", "partner", "day"]),
     ("deactivate", &["point", "day"]),
@@ -77,13 +81,15 @@ const NAMES: [(&str, &[&str]); 11] = [
     ("assign", &["area", "group", "day"]),
     ("show", &["run", "group"]),
     ("status", &["point", "version"]),
-    ("settle", &["run", "day"]),
+    ("close", &["run", "day"]),
     ("lodge", &["group", "day"]),
     ("report", &["run", "group"]),
+    ("issue", &["run", "day"]),
 ];
 
 impl Call {
-    /// The call's place in the building order of document 01, 1 to 9; document 02's lodge is 10, its report 11.
+    /// The call's place in the building order of document 01, 1 to 9, where document 02's close has settle's; its lodge is 10,
+    /// its report 11, its issue 12.
     pub fn number(&self) -> u64 {
         match self {
             Call::Open { .. } => 1,
@@ -94,9 +100,10 @@ impl Call {
             Call::Assign { .. } => 6,
             Call::Show { .. } => 7,
             Call::Status { .. } => 8,
-            Call::Settle { .. } => 9,
+            Call::Close { .. } => 9,
             Call::Lodge { .. } => 10,
             Call::Report { .. } => 11,
+            Call::Issue { .. } => 12,
         }
     }
 
@@ -138,7 +145,7 @@ impl Call {
             Call::Assign { area, group, day } => vec![area, group, day],
             Call::Show { run, group } => vec![run, group],
             Call::Status { point, version } => vec![point, version],
-            Call::Settle { run, day } => vec![run, day],
+            Call::Close { run, day } | Call::Issue { run, day } => vec![run, day],
             Call::Lodge {
                 group,
                 day,
@@ -181,13 +188,14 @@ impl Call {
             (6, &[area, group, day]) => Call::Assign { area, group, day },
             (7, &[run, group]) => Call::Show { run, group },
             (8, &[point, version]) => Call::Status { point, version },
-            (9, &[run, day]) => Call::Settle { run, day },
+            (9, &[run, day]) => Call::Close { run, day },
             (10, &[group, day, ref series @ ..]) => Call::Lodge {
                 group,
                 day,
                 series: series.to_vec(),
             },
             (11, &[run, group]) => Call::Report { run, group },
+            (12, &[run, day]) => Call::Issue { run, day },
             _ => return None,
         })
     }
@@ -200,7 +208,8 @@ impl Call {
             | Call::Submit { day, .. }
             | Call::Notice { day, .. }
             | Call::Assign { day, .. }
-            | Call::Settle { day, .. }
+            | Call::Close { day, .. }
+            | Call::Issue { day, .. }
             | Call::Lodge { day, .. } => Some(day),
             Call::Open { .. } | Call::Show { .. } | Call::Status { .. } | Call::Report { .. } => {
                 None
@@ -227,7 +236,8 @@ impl Call {
             Call::Activate { .. }
             | Call::Deactivate { .. }
             | Call::Status { .. }
-            | Call::Settle { .. } => [false; 4],
+            | Call::Close { .. }
+            | Call::Issue { .. } => [false; 4],
         }
     }
 

@@ -223,7 +223,8 @@ fn called_written(
         Call::Activate { .. }
         | Call::Deactivate { .. }
         | Call::Status { .. }
-        | Call::Settle { .. } => {}
+        | Call::Close { .. }
+        | Call::Issue { .. } => {}
     }
 }
 

@@ -1,9 +1,11 @@
 //! What the compared calls and selected versions were: how often each answer and each status came up, and how often each case
 //! that is easy to get wrong.
 
+use crate::acts::{self, ISSUED};
 use crate::call::{Call, Lengths};
 use crate::desk::{other_lengths, Answer, Desk, LOG_ROW, MOST_VERSIONS};
 use crate::notices;
+use crate::replay::Run;
 use crate::schedules;
 use crate::tally::Tally;
 use crate::worked::{Month, Point, Version};
@@ -16,6 +18,11 @@ pub fn called(tally: &mut Tally, desk: &mut Desk, call: &Call, lent: Lengths) ->
     if let Some(before) = &before {
         let list = &desk.list()[..calls];
         schedules::count(tally, list, before, (call, lent), &answer);
+        let number = match answer {
+            Answer::Status(_) => 0,
+            _ => answer.number(),
+        };
+        acts::count(tally, list, before, call, number);
     }
     match (&answer, &before) {
         (Answer::Refused(number), None) => {
@@ -34,6 +41,7 @@ pub fn called(tally: &mut Tally, desk: &mut Desk, call: &Call, lent: Lengths) ->
             let after = desk.month().expect("an open desk");
             notices::count(tally, before, call, 0);
             notices::assert_followed(before, &after, call);
+            acts::assert_followed(desk.list(), before, &after);
             count_accepted(tally, before, &after, call);
         }
     }
@@ -80,7 +88,8 @@ fn count_accepted(tally: &mut Tally, before: &Month, after: &Month, call: &Call)
         (Call::Assign { area, .. }, _) if before.figures(1) != after.figures(1) => {
             tally.add("assign that moves a delta", u64::from(*area > 0));
         }
-        (Call::Settle { run, .. }, _) => tally.add("run settled", *run),
+        (Call::Close { run, .. }, _) => tally.add("run closed", *run),
+        (Call::Issue { run, .. }, _) => tally.add("run issued", *run),
         _ => {}
     }
 }
@@ -111,8 +120,9 @@ pub const STATUSES: [(&str, &[u64]); 3] = [
 
 /// Cases in which the status of a selected version is easy to get wrong, with the numbers that they are counted by: the
 /// status or the run.
-pub const SELECTIONS: [(&str, &[u64]); 4] = [
-    ("as by run 1, and run 2 is settled", &[3]),
+pub const SELECTIONS: [(&str, &[u64]); 5] = [
+    ("as by run 1, and run 2 is issued", &[2, 3]),
+    ("not settled, and the run closed", &[2, 4]),
     ("not settled, behind the deadline", &[2, 4]),
     ("below a version of another status", &[1, 2]),
     ("above a version of another status", &[1, 2]),
@@ -129,8 +139,8 @@ pub fn count_selected(tally: &mut Tally, month: &Month) {
                 (_, true) => "selected by run 2, as by run 1",
             };
             tally.add(what, version.status);
-            if fallback && month.settled[1] {
-                tally.add("as by run 1, and run 2 is settled", version.status);
+            if fallback && acts::state(month, 2) == ISSUED {
+                tally.add("as by run 1, and run 2 is issued", version.status);
             }
             count_status(tally, month, version);
             count_beside(tally, run, point, version);
@@ -138,13 +148,16 @@ pub fn count_selected(tally: &mut Tally, month: &Month) {
     }
 }
 
-/// A status that a settle has not changed yet although its day has come.
+/// A status that no issue has changed yet although the run is closed, or its day has come.
 fn count_status(tally: &mut Tally, month: &Month, version: &Version) {
-    let behind = match version.status {
-        2 => month.day > month.clearing,
-        4 => month.day > month.correction,
-        _ => false,
+    let (closed, behind) = match version.status {
+        2 => (month.closed[0], month.day > month.clearing),
+        4 => (month.closed[1], month.day > month.correction),
+        _ => (false, false),
     };
+    if closed {
+        tally.add("not settled, and the run closed", version.status);
+    }
     if behind {
         tally.add("not settled, behind the deadline", version.status);
     }
@@ -164,4 +177,25 @@ fn count_beside(tally: &mut Tally, run: u64, point: &Point, selected: &Version) 
     if others().any(|other| other.number < selected.number) {
         tally.add("above a version of another status", run);
     }
+}
+
+/// Counts the notices, closes and issues of a file that was run, and asserts what comes of its accepted calls.
+pub fn count_run(tally: &mut Tally, run: &Run) {
+    let (list, mut accepted) = (run.desk.list(), 0);
+    for (call, answer) in &run.answered {
+        let before = Month::of(&list[..accepted]);
+        let earlier = &list[..accepted];
+        accepted += usize::from(*answer == 0);
+        let after = Month::of(&list[..accepted]);
+        let (Some(before), Some(after)) = (before, after) else {
+            continue;
+        };
+        notices::count(tally, &before, call, *answer);
+        acts::count(tally, earlier, &before, call, *answer);
+        if *answer == 0 {
+            notices::assert_followed(&before, &after, call);
+            acts::assert_followed(&list[..accepted], &before, &after);
+        }
+    }
+    acts::count_ended(tally, run);
 }

@@ -26,7 +26,7 @@ pub struct Field {
 }
 
 /// Every field of the state.
-pub const FIELDS: [Field; 22] = [
+pub const FIELDS: [Field; 23] = [
     Field::of("quarters", quarters),
     Field::of("first delivery", first),
     Field::of("clearing", clearing),
@@ -39,7 +39,8 @@ pub const FIELDS: [Field; 22] = [
     Field::of("delta group", delta_group),
     Field::of("version count", version_count),
     Field::of("log rows used", log_rows),
-    Field::of("run settled", settled),
+    Field::of("run closed", closed),
+    Field::of("run issued", issued),
     Field::of("point's day", point_day),
     Field::of("point's kind", point_kind),
     Field::of("point's area", point_area),
@@ -67,7 +68,10 @@ impl Field {
 pub fn undone(month: &Month, damage: &Damage) -> Damage {
     let Damage { which, place, .. } = *damage;
     let Month {
-        lengths, settled, ..
+        lengths,
+        closed,
+        issued,
+        ..
     } = month;
     let value = match which {
         1 => month.quarters,
@@ -81,8 +85,9 @@ pub fn undone(month: &Month, damage: &Damage) -> Damage {
         9 => month.groups[place as usize],
         10 => month.rows.len() as u64,
         11 => month.log.len() as u64,
-        12 | 13 => u64::from(settled[which as usize - 12]),
+        12 | 13 => closed[which as usize - 12].into(),
         17 => lengths.schedules,
+        18 | 19 => issued[which as usize - 18].into(),
         14 | 15 => return point_as_it_is(month, place),
         16 => return version(place, version_as_it_is(month, place)),
         _ => 0,
@@ -283,12 +288,21 @@ fn log_rows(month: &Month) -> Limits {
     number(11, &[0, most], &outside)
 }
 
-fn settled(_: &Month) -> Limits {
-    let inside = [12, 13].map(|which| [vec![set(which, 0)], vec![set(which, 1)]]);
+/// Two flags, of which either value is inside the limits.
+fn flags(which: [u64; 2]) -> Limits {
+    let inside = which.map(|which| [vec![set(which, 0)], vec![set(which, 1)]]);
     Limits {
         inside: inside.concat(),
         outside: vec![],
     }
+}
+
+fn closed(_: &Month) -> Limits {
+    flags([12, 13])
+}
+
+fn issued(_: &Month) -> Limits {
+    flags([18, 19])
 }
 
 /// The limits of a field of a point, from records of a point; in the table's first and last place and another.

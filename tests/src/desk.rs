@@ -5,8 +5,8 @@ use crate::worked::{signed, Month, GROUPS, ROWS};
 use std::iter::once;
 
 /// The numbers of the table of causes, in its order.
-pub const CAUSES: [u64; 23] = [
-    1, 2, 3, 6, 4, 5, 11, 26, 21, 22, 12, 23, 13, 14, 15, 24, 37, 25, 16, 17, 27, 28, 29,
+pub const CAUSES: [u64; 25] = [
+    1, 2, 3, 6, 4, 5, 11, 26, 21, 22, 12, 23, 13, 14, 15, 24, 37, 25, 16, 17, 27, 28, 29, 38, 39,
 ];
 
 /// Most versions that a desk holds.
@@ -88,6 +88,8 @@ impl Desk {
             (3, _) => !in_range(call, month.quarters),
             (6, Call::Open { .. }) => true,
             (5, _) => call.day().is_some_and(|day| day < month.day),
+            (38, Call::Issue { run, .. }) => !month.closed[*run as usize - 1],
+            (39, Call::Issue { run, .. }) => month.issued[*run as usize - 1],
             (
                 11,
                 Call::Activate { day, .. }
@@ -137,10 +139,10 @@ impl Desk {
                 let left = month.lengths.log / LOG_ROW - month.log.len() as u64;
                 left == 0 && self.log_row_due(month, call, lent)
             }
-            (27, Call::Settle { run: 1, day }) => *day <= month.clearing,
-            (27, Call::Settle { day, .. }) => *day <= month.correction,
-            (28, Call::Settle { run, .. }) => month.settled[*run as usize - 1],
-            (29, Call::Settle { run: 2, .. }) => !month.settled[0],
+            (27, Call::Close { run: 1, day }) => *day <= month.clearing,
+            (27, Call::Close { day, .. }) => *day <= month.correction,
+            (28, Call::Close { run, .. }) => month.closed[*run as usize - 1],
+            (29, Call::Close { run: 2, .. }) => !month.closed[0],
             _ => false,
         }
     }
@@ -233,7 +235,7 @@ pub fn in_range(call: &Call, quarters: u64) -> bool {
                 (1..=64).contains(group) && are_energies(series, quarters)
             }
             Call::Status { version, .. } => is_version(*version),
-            Call::Settle { run, .. } => (1..=2).contains(run),
+            Call::Close { run, .. } | Call::Issue { run, .. } => (1..=2).contains(run),
             Call::Open { .. } | Call::Deactivate { .. } => true,
         }
 }

@@ -9,6 +9,9 @@ use crate::replay::call_of;
 /// Most that is shown of a call or of bytes, in characters.
 const SHOWN: usize = 300;
 
+/// The kind of an issue.
+const ISSUE: u64 = 8;
+
 /// A file in parts: a call each, or what was made of one.
 pub type Parts = Vec<Vec<u8>>;
 
@@ -18,7 +21,8 @@ pub fn carried(call: &Call) -> Option<generator::Call> {
         Call::Show { .. } | Call::Status { .. } | Call::Lodge { .. } | Call::Report { .. } => {
             return None
         }
-        Call::Settle { .. } => 7,
+        Call::Close { .. } => 7,
+        Call::Issue { .. } => ISSUE,
         _ => call.number(),
     };
     let mut fields = call.fields();
@@ -39,6 +43,11 @@ pub fn calls(month: &Trial) -> Vec<generator::Call> {
         Step::Damaged { .. } | Step::Write(_) => None,
     };
     month.steps.iter().filter_map(call).collect()
+}
+
+/// Calls as an older file has them: without issues.
+pub fn older(calls: &mut Vec<generator::Call>) {
+    calls.retain(|call| call.kind != ISSUE);
 }
 
 /// A file of calls as they are.
@@ -93,15 +102,39 @@ fn submission_of(bytes: usize) -> generator::Call {
     }
 }
 
-/// A month of eight quarter hours with full tables: 256 points, the last activated first, each with two versions of the
-/// highest numbers and energies. The first is one of run 1, the second one of run 2 at every other point, else check data. The
-/// last two calls settle the runs. Every call is accepted.
-pub fn full_month() -> Vec<generator::Call> {
-    let call = |kind: u64, fields: &[u64], series: &[u64]| generator::Call {
+fn call(kind: u64, fields: &[u64], series: &[u64]) -> generator::Call {
+    generator::Call {
         kind,
         fields: fields.to_vec(),
         series: series.to_vec(),
-    };
+    }
+}
+
+/// Closes and issues of both runs in each order that is accepted: kind, run and day.
+const ACTS: [[[u64; 3]; 4]; 3] = [
+    [[7, 1, 31], [ISSUE, 1, 31], [7, 2, 151], [ISSUE, 2, 151]],
+    [[7, 1, 31], [7, 2, 151], [ISSUE, 1, 151], [ISSUE, 2, 151]],
+    [[7, 1, 31], [7, 2, 151], [ISSUE, 2, 151], [ISSUE, 1, 151]],
+];
+
+/// The month of `full_month` with the first acts of each order, from none to all four. Every call is accepted.
+pub fn full_months() -> Vec<Vec<generator::Call>> {
+    let mut months = Vec::new();
+    for order in ACTS {
+        let mut calls = full_month();
+        months.push(calls.clone());
+        for [kind, run, day] in order {
+            calls.push(call(kind, &[run, day], &[]));
+            months.push(calls.clone());
+        }
+    }
+    months
+}
+
+/// A month of eight quarter hours with full tables: 256 points, the last activated first, each with two versions of the
+/// highest numbers and energies. The first is one of run 1, the second one of run 2 at every other point, else check data.
+/// Every call is accepted.
+fn full_month() -> Vec<generator::Call> {
     let exchanges = (1..=16).flat_map(|area| (0..area).map(move |partner| (1, area, partner)));
     let sums = (1..=2).flat_map(|area| (1..=64).map(move |group| (2, area, group)));
     let points: Vec<_> = (1..=256).rev().zip(exchanges.chain(sums)).collect();
@@ -120,8 +153,6 @@ pub fn full_month() -> Vec<generator::Call> {
     for &(point, _) in points.iter().filter(|(point, _)| point % 2 == 0) {
         calls.push(call(5, &[point, versions[1], 1, 31], &[]));
     }
-    calls.push(call(7, &[1, 31], &[]));
-    calls.push(call(7, &[2, 151], &[]));
     calls
 }
 

@@ -73,8 +73,20 @@ pub const ENERGIES: [i64; 10] = [
 /// Energies just outside what a file can carry, and the ends of the 64-bit range.
 pub const FOREIGN_ENERGIES: [i64; 4] = [1 << 62, -(1 << 62) - 1, i64::MAX, i64::MIN];
 
-/// Kinds that no call has.
-pub const FOREIGN_KINDS: [u64; 8] = [0, 8, 9, 127, 128, 136, 1 << 62, (1 << 63) - 1];
+/// Kinds that no call has: beside the range, and such as a narrower number takes for kind 8.
+pub const FOREIGN_KINDS: [u64; 11] = [
+    0,
+    9,
+    10,
+    11,
+    127,
+    128,
+    136,
+    264,
+    (1 << 32) + 8,
+    1 << 62,
+    (1 << 63) - 1,
+];
 
 /// Counts that no submission has.
 pub const FOREIGN_COUNTS: [u64; 5] = [2_981, 2_982, 1 << 14, 1 << 62, (1 << 63) - 1];
@@ -113,7 +125,7 @@ pub fn count(random: &mut Random) -> usize {
 /// A call that a file can carry: its kind, its fields and a submission's energies as words.
 #[derive(Clone, Debug)]
 pub struct Call {
-    /// 1 to 7.
+    /// 1 to 8.
     pub kind: u64,
     /// As many as the kind has.
     pub fields: Vec<u64>,
@@ -219,7 +231,7 @@ impl File {
     fn of(random: &mut Random, calls: usize) -> File {
         let mut file = File::default();
         for _ in 0..calls {
-            let kind = 1 + random.below(7) as u64;
+            let kind = 1 + random.below(8) as u64;
             file.append(&call(random, kind));
         }
         file
@@ -239,7 +251,7 @@ impl File {
 /// How a file was made.
 #[derive(Clone, Copy, PartialEq, Eq, Debug)]
 pub enum Shape {
-    /// Calls of all seven kinds.
+    /// Calls of all eight kinds.
     Valid,
     /// No bytes.
     Empty,
@@ -253,7 +265,7 @@ pub enum Shape {
     Ninth,
     /// A number of up to eight bytes that ends with the file, each with the top bit set.
     Unended,
-    /// A kind other than 1 to 7.
+    /// A kind other than 1 to 8.
     Kind,
     /// A count above 2,980.
     Count,
@@ -273,7 +285,7 @@ impl Shape {
         (Shape::Longer, "longer form", &[32]),
         (Shape::Ninth, "ninth byte's top bit", &[32]),
         (Shape::Unended, "number unended", &[31]),
-        (Shape::Kind, "kind not 1 to 7", &[33]),
+        (Shape::Kind, "kind not 1 to 8", &[33]),
         (Shape::Count, "count above 2,980", &[34]),
         (Shape::Full, "2,980 energies or one less", &[0]),
         (Shape::Noise, "noise", &[0, 31, 32, 33, 34]),
@@ -416,7 +428,7 @@ pub(crate) fn noise(random: &mut Random) -> Vec<u8> {
         if random.once_in(4) {
             random.word() as u8
         } else {
-            random.below(9) as u8
+            random.below(11) as u8
         }
     };
     (0..bytes).map(|_| byte()).collect()

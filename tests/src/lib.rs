@@ -1,5 +1,5 @@
-//! A second implementation of document 01 and of document 02's calendar, statuses, notices, schedules and walk over the
-//! versions, written from the papers alone, and what its comparison with the proved libraries needs. The comparisons
+//! A second implementation of document 01 and of document 02's calendar, statuses, notices, schedules, walk over the versions,
+//! and close and issue, written from the papers alone, and what its comparison with the proved libraries needs. The comparisons
 //! themselves stand in `tests/`, one file for each thing compared.
 //!
 //! | module | what it is |
@@ -7,7 +7,7 @@
 //! | `message` | second implementation: reader and writer of the message file |
 //! | `figure` | second implementation: the figure in a book of bytes |
 //! | `report` | second implementation: the report on a book and schedules that may hold anything |
-//! | `call` | the eleven calls and their fields |
+//! | `call` | the twelve calls and their fields |
 //! | `desk`, `worked` | second implementation: the plain desk, and what its list of calls says |
 //! | `walk` | second implementation: one walk over a version table that may hold anything |
 //! | `replay` | second implementation: a whole file through the plain desk |
@@ -23,11 +23,13 @@
 //! | `compare` | a month with both desks, and the shortest list of calls where they differ |
 //! | `counts` | which cases the compared calls and selected versions were |
 //! | `notices` | which cases the compared notices were, and what they come to on a desk that was fresh |
+//! | `acts` | which cases the compared closes and issues were, and what they come to on a desk that was fresh |
 //! | `schedules` | which cases the compared lodgings and reports were, and what the deviations of all groups add up to |
 //! | `tally` | how often each answer was compared |
 
 #![warn(missing_docs)]
 
+pub mod acts;
 pub mod calendar;
 pub mod call;
 pub mod compare;

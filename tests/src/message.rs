@@ -23,7 +23,7 @@ pub enum Cause {
     Ends,
     /// A number is not in its shortest form, or its ninth byte has the top bit set.
     Form,
-    /// The call's kind is not 1 to 7.
+    /// The call's kind is not 1 to 8.
     Kind,
     /// A count above 2,980; in the writer also a field or an energy that a file cannot carry.
     Limit,
@@ -53,7 +53,7 @@ pub fn fields_of(kind: u64) -> Option<usize> {
         SUBMIT => Some(3),
         5 => Some(4),
         6 => Some(3),
-        7 => Some(2),
+        7 | 8 => Some(2),
         _ => None,
     }
 }
@@ -70,7 +70,7 @@ pub struct Refusal {
 /// A call as read. The energies of a submission are in the series buffer.
 #[derive(Clone, Copy, Debug, PartialEq, Eq)]
 pub struct Call {
-    /// 1 to 7.
+    /// 1 to 8.
     pub kind: u64,
     /// The fields of the kind, then 0.
     pub fields: [u64; MOST_FIELDS],

@@ -21,8 +21,8 @@ pub enum Size {
     Points,
     /// Some 70 calls in a month of so many quarter hours.
     Quarters(u64),
-    /// Some 70 calls in a month of so many quarter hours, of which mostly both runs are settled.
-    Settled(u64),
+    /// Some 85 calls in a month of so many quarter hours, of which mostly both runs are closed and issued.
+    Issued(u64),
 }
 
 /// Numbers at the ends of a field's range, beyond them, and such as a narrower number takes for others.
@@ -97,13 +97,16 @@ pub(crate) struct Plan {
     pub(crate) points: Vec<u64>,
     pub(crate) groups: Vec<u64>,
     pub(crate) areas: Vec<u64>,
+    /// Whether run 2 is mostly issued before run 1.
+    pub(crate) second_first: bool,
 }
 
 /// A month from the seed.
 pub fn month(random: &mut Random, size: Size) -> Trial {
     let plan = plan(random, size);
     let calls = match size {
-        Size::Short | Size::Quarters(_) | Size::Settled(_) => 46 + random.below(47),
+        Size::Short | Size::Quarters(_) => 46 + random.below(47),
+        Size::Issued(_) => 62 + random.below(47),
         Size::Versions => 690 + random.below(40),
         Size::Points => 440 + random.below(260),
     };
@@ -115,7 +118,7 @@ pub fn month(random: &mut Random, size: Size) -> Trial {
     let mut desk = Desk::new();
     let pace = match size {
         Size::Versions => 50,
-        Size::Settled(_) => 85 + random.below(35),
+        Size::Issued(_) => 85 + random.below(35),
         _ => 70 + random.below(50),
     };
     for at in 0..calls {
@@ -213,7 +216,7 @@ pub fn refused(random: &mut Random, trial: &Trial, desk: &Desk, calls: usize) ->
 
 fn plan(random: &mut Random, size: Size) -> Plan {
     let quarters = match size {
-        Size::Quarters(quarters) | Size::Settled(quarters) => quarters,
+        Size::Quarters(quarters) | Size::Issued(quarters) => quarters,
         Size::Short => random.of(&[1, 1, 2, 2, 3, 4]),
         Size::Versions | Size::Points => random.of(&[1, 1, 1, 2]),
     };
@@ -231,7 +234,7 @@ fn plan(random: &mut Random, size: Size) -> Plan {
     let (rows, log_rows) = match size {
         Size::Versions => (512 + random.below(3), 600),
         Size::Points => (600, random.of(&[100, 512])),
-        Size::Settled(_) => (40, 40),
+        Size::Issued(_) => (40, 40),
         _ => (
             random.of(&[0, 3, 7, 40, 40, 40, 40, 600]),
             random.of(&[0, 1, 2, 4, 8, 40, 40, 40, 40]),
@@ -278,6 +281,7 @@ fn plan(random: &mut Random, size: Size) -> Plan {
         points,
         groups,
         areas,
+        second_first: random.once_in(3),
     }
 }
 
@@ -289,7 +293,7 @@ fn days(random: &mut Random, size: Size, f: u64, c: u64, k: u64) -> Vec<u64> {
     match size {
         Size::Versions => {}
         Size::Points => days.extend([0; 16]),
-        Size::Settled(_) => days.extend([0, late, k + 1, k + 1, k + 1, k + 1]),
+        Size::Issued(_) => days.extend([0, late, k + 1, k + 1, k + 1, k + 1]),
         _ => days.push(0),
     }
     days.extend([f + 1, f + 1, f + 1, middle, c, c, c]);
@@ -350,9 +354,10 @@ fn other_schedules(random: &mut Random, plan: &Plan) -> u64 {
 
 /// A call with numbers of no meaning.
 pub(crate) fn any_call(random: &mut Random, quarters: u64) -> Call {
-    let number = 2 + random.below(10) as u64;
+    let number = 2 + random.below(11) as u64;
     let energies = quarters as usize;
-    let fields = [0, 21, 5, 2, 3 + energies, 4, 3, 2, 2, 2, 2 + energies, 2][number as usize];
+    let fields = [0, 21, 5, 2, 3 + energies, 4, 3, 2, 2, 2, 2 + energies, 2, 2];
+    let fields = fields[number as usize];
     let fields: Vec<u64> = (0..fields).map(|_| random.of(&ENDS)).collect();
     Call::of(number, &fields).expect("so many fields")
 }

@@ -3,13 +3,12 @@
 
 use crate::call::Call;
 use crate::desk::LOG_ROW;
-use crate::replay::Run;
 use crate::tally::Tally;
 use crate::worked::{Month, Point, Version};
 
 /// Cases of notices on an active point with a version, with the numbers that they are counted by: the answer, or the status
-/// of the version where the case says so. None on an older version of status 5 reaches cause 37: status 5 comes by a settle
-/// after K, where a notice is answered 5 or 11.
+/// of the version where the case says so. None on an older version of status 5 reaches cause 37: status 5 comes by an issue of
+/// run 2, closed after K, where a notice is answered 5 or 11.
 pub const NOTICES: [(&str, &[u64]); 10] = [
     ("positive notice on the highest", &[0, 25]),
     ("positive notice, status given", &[2, 4]),
@@ -107,22 +106,5 @@ pub fn assert_followed(before: &Month, after: &Month, call: &Call) {
         let [first, second] = [1, 2].map(|run| point.own(run).map(|v| v.number));
         let above = second.is_none() || first < second;
         assert!(above, "run 2's own of point {number} after {call}");
-    }
-}
-
-/// Counts the notices of a file that was run, and asserts what comes of its accepted calls.
-pub fn count_run(tally: &mut Tally, run: &Run) {
-    let (list, mut accepted) = (run.desk.list(), 0);
-    for (call, answer) in &run.answered {
-        let before = Month::of(&list[..accepted]);
-        accepted += usize::from(*answer == 0);
-        let after = Month::of(&list[..accepted]);
-        let (Some(before), Some(after)) = (before, after) else {
-            continue;
-        };
-        count(tally, &before, call, *answer);
-        if *answer == 0 {
-            assert_followed(&before, &after, call);
-        }
     }
 }

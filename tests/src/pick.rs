@@ -1,5 +1,6 @@
 //! The choice of calls to an open desk: mostly such as it accepts, and some for each refusal.
 
+use crate::acts::{state, CLOSED, ISSUED};
 use crate::call::{Call, Lengths};
 use crate::generator::Random;
 use crate::months::{any_call, changed, Plan, Size};
@@ -39,15 +40,21 @@ impl<'a> Pick<'a> {
 
     fn right_call(&mut self) -> Call {
         let weights = match self.plan.size {
-            Size::Versions if self.month.points.len() >= 20 => [1, 1, 1, 240, 6, 2, 2, 2, 2, 2, 2],
-            Size::Versions => [1, 90, 1, 8, 1, 1, 1, 1, 1, 1, 1],
-            Size::Points if self.month.points.len() < 256 && self.planned == 0 => {
-                [1, 300, 1, 2, 1, 1, 1, 1, 1, 1, 1]
+            Size::Versions if self.month.points.len() >= 20 => {
+                [1, 1, 1, 240, 6, 2, 2, 2, 2, 2, 2, 2]
             }
-            _ if self.due().is_some() => [1, 1, 1, 6, 24, 2, 1, 1, 6, 1, 1],
-            _ if self.month.points.len() < 3 => [1, 40, 2, 12, 2, 4, 2, 2, 4, 4, 2],
-            _ if self.is_corrected() => [2, 4, 3, 44, 44, 3, 7, 8, 7, 3, 7],
-            _ => [2, 9, 6, 40, 28, 9, 7, 8, 7, 12, 9],
+            Size::Versions => [1, 90, 1, 8, 1, 1, 1, 1, 1, 1, 1, 1],
+            Size::Points if self.month.points.len() < 256 && self.planned == 0 => {
+                [1, 300, 1, 2, 1, 1, 1, 1, 1, 1, 1, 1]
+            }
+            _ if self.due().is_some() => [1, 1, 1, 6, 24, 2, 1, 1, 10, 1, 1, 3],
+            _ if self.month.points.len() < 3 => [1, 40, 2, 12, 2, 4, 2, 2, 4, 4, 2, 4],
+            _ if self.is_corrected() => match self.to_issue()[..] {
+                [] => [2, 4, 3, 44, 44, 3, 7, 8, 7, 3, 7, 7],
+                _ => [2, 4, 3, 34, 34, 3, 7, 8, 7, 3, 7, 36],
+            },
+            _ if self.month.closed[0] => [2, 4, 4, 10, 10, 5, 6, 7, 8, 6, 7, 24],
+            _ => [2, 9, 8, 40, 28, 9, 7, 8, 8, 12, 9, 8],
         };
         let mut choice = self.random.below(weights.iter().sum());
         let mut number = 0;
@@ -64,9 +71,10 @@ impl<'a> Pick<'a> {
             Pick::assign,
             Pick::show,
             Pick::status,
-            Pick::settle,
+            Pick::close,
             Pick::lodge,
             Pick::report,
+            Pick::issue,
         ];
         choose[number](self)
     }
@@ -141,6 +149,14 @@ impl<'a> Pick<'a> {
             }
             6 => self.random.of(&[0, 399, 400, 401]),
             _ => today,
+        }
+    }
+
+    /// The same, and more often the day before the desk's.
+    fn day_or_before(&mut self) -> u64 {
+        match self.among(24) {
+            0 => self.month.day.wrapping_sub(1),
+            _ => self.day(),
         }
     }
 
@@ -224,7 +240,7 @@ impl<'a> Pick<'a> {
     fn deactivate(&mut self) -> Call {
         Call::Deactivate {
             point: self.point(),
-            day: self.day(),
+            day: self.day_or_before(),
         }
     }
 
@@ -383,7 +399,8 @@ impl<'a> Pick<'a> {
         }
     }
 
-    /// A schedule, sometimes one that is near the group's figures; some days ahead, seldom on C, sometimes behind C and K.
+    /// A schedule, sometimes one that is near the group's figures; some days ahead, seldom a day too
+    /// early or on C, sometimes behind C and K.
     fn lodge(&mut self) -> Call {
         let group = self.group();
         let Month {
@@ -397,7 +414,8 @@ impl<'a> Pick<'a> {
                 let late = [clearing + 1, correction, correction + 1];
                 self.random.of(&late)
             }
-            5..=9 => self.today() + 1 + self.random.below(3) as u64,
+            5..=11 => self.today() + 1 + self.random.below(3) as u64,
+            12 => self.month.day.wrapping_sub(1),
             _ => self.day(),
         };
         let mut series = self.energies();
@@ -416,29 +434,57 @@ impl<'a> Pick<'a> {
         Call::Status { point, version }
     }
 
-    fn settle(&mut self) -> Call {
+    fn close(&mut self) -> Call {
         let due = self.due();
-        Call::Settle {
-            run: due.unwrap_or_else(|| 1 + self.random.below(2) as u64),
-            day: self.day(),
+        Call::Close {
+            run: due.unwrap_or_else(|| self.run()),
+            day: self.day_or_before(),
         }
     }
 
-    /// The run that is not settled although its deadline has passed, in a month that is to be settled.
+    /// Mostly of a run that is to be issued.
+    fn issue(&mut self) -> Call {
+        let to_issue = self.to_issue();
+        let run = match to_issue[..] {
+            [] if self.plan.second_first => 2,
+            [] => self.run(),
+            _ if self.random.once_in(4) => self.run(),
+            _ => self.random.of(&to_issue),
+        };
+        Call::Issue {
+            run,
+            day: self.day_or_before(),
+        }
+    }
+
+    /// The run that is not closed although its deadline has passed, in a month that is to be issued.
     fn due(&self) -> Option<u64> {
-        let Size::Settled(_) = self.plan.size else {
+        let Size::Issued(_) = self.plan.size else {
             return None;
         };
         let today = self.today();
-        match self.month.settled {
+        match self.month.closed {
             [false, _] if today > self.month.clearing => Some(1),
             [true, false] if today > self.month.correction => Some(2),
             _ => None,
         }
     }
 
-    /// Whether run 1 is settled and run 2 takes corrections.
+    /// The runs that are closed and not issued. Where run 2 comes first, it alone until it is issued, and then again beside run 1.
+    fn to_issue(&self) -> Vec<u64> {
+        let states = [1, 2].map(|run| state(self.month, run));
+        match (states, self.plan.second_first) {
+            ([CLOSED, CLOSED], true) => vec![2],
+            ([CLOSED, ISSUED], true) => vec![1, 2, 2, 2],
+            ([CLOSED, CLOSED], false) => vec![1, 2],
+            ([CLOSED, _], false) => vec![1],
+            ([_, CLOSED], _) => vec![2],
+            _ => vec![],
+        }
+    }
+
+    /// Whether run 1 is closed and run 2 takes corrections.
     fn is_corrected(&self) -> bool {
-        self.month.settled[0] && self.today() <= self.month.correction
+        self.month.closed[0] && self.today() <= self.month.correction
     }
 }

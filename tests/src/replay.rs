@@ -9,8 +9,8 @@ use crate::script::Stores;
 use crate::worked::GROUPS;
 
 /// Places of a summary: calls answered, offset, quarter hours, log rows used, versions held, calls refused, the first of
-/// them, the day, whether run 1 and run 2 are settled.
-pub const SUMMARY: usize = 10;
+/// them, the day, whether run 1 and run 2 are closed, whether run 1 and run 2 are issued.
+pub const SUMMARY: usize = 12;
 
 /// Places of a point: active, since, kind, area, partner, the version of run 1, that of run 2, the status of run 1's
 /// version, that of run 2's.
@@ -175,6 +175,7 @@ pub fn run(file: &[u8], whole: Lengths, series: &mut [u64], room: usize) -> Run 
 pub fn call_of(read: &message::Call, series: &[u64]) -> Call {
     let number = match read.kind {
         7 => 9,
+        8 => 12,
         kind => kind,
     };
     let used = fields_of(read.kind).expect("a kind that was read");
@@ -242,8 +243,10 @@ fn summary_of(run: &Run) -> [u64; SUMMARY] {
         summary[3] = month.log.len() as u64;
         summary[4] = month.rows.len() as u64;
         summary[7] = month.day;
-        summary[8] = month.settled[0].into();
-        summary[9] = month.settled[1].into();
+        summary[8] = month.closed[0].into();
+        summary[9] = month.closed[1].into();
+        summary[10] = month.issued[0].into();
+        summary[11] = month.issued[1].into();
     }
     summary
 }

@@ -1,5 +1,6 @@
 //! Lodgings and reports: which cases the compared ones were, and what the deviations of all groups add up to.
 
+use crate::acts::{self, CLOSED, ISSUED, OPEN};
 use crate::call::{Call, Lengths};
 use crate::desk::{in_range, other_lengths, Answer, Desk};
 use crate::pick::LARGEST;
@@ -9,7 +10,8 @@ use crate::worked::{signed, Month, GROUPS};
 
 /// Cases of lodgings and reports to an open desk, and of other calls beside them, with the numbers that they are counted by: the
 /// answer, the call's number where the case names calls, the group or the run where it names those, or 0 and 1 for no and yes.
-/// Of energies and lengths beside the right ones 0 is the one below and 1 the one above.
+/// Of energies and lengths beside the right ones 0 is the one below and 1 the one above; of a report's run 0 is open, 1 closed,
+/// 2 issued.
 pub const CASES: [(&str, &[u64]); 28] = [
     ("lodge on day C", &[0]),
     ("lodge on day C + 1", &[26]),
@@ -17,7 +19,10 @@ pub const CASES: [(&str, &[u64]); 28] = [
     ("lodge on day K + 1", &[26]),
     ("lodged in the place of another", &[0, 1]),
     ("lodge refused, another stays", &[2, 3, 5, 26]),
-    ("5 by a lodging's day alone, call", &[2, 3, 4, 5, 6, 9, 10]),
+    (
+        "5 by a lodging's day alone, call",
+        &[2, 3, 4, 5, 6, 9, 10, 12],
+    ),
     ("lodge, schedules of another length", &[2]),
     ("report, schedules of another length", &[2]),
     ("report, book of another length", &[2]),
@@ -25,10 +30,13 @@ pub const CASES: [(&str, &[u64]); 28] = [
     ("schedules too long at an opening", &[4]),
     ("other stores at a lodging", &[0]),
     ("other values or log at a report", &[0]),
-    ("other schedules, not taken, call", &[2, 3, 4, 5, 6, 7, 9]),
+    (
+        "other schedules, not taken, call",
+        &[2, 3, 4, 5, 6, 7, 9, 12],
+    ),
     ("report of a group that lodged", &[0, 1, 2, 3]),
     ("report of a group that never lodged", &[0, 1, 2, 3]),
-    ("report, its run settled", &[0, 1]),
+    ("report, its run", &[OPEN, CLOSED, ISSUED]),
     ("report, other sums in the other run", &[0, 1]),
     ("lodge, ends of the range, group", &[0, 1, 64, 65]),
     ("report, ends of the range, group", &[0, 1, 64, 65]),
@@ -217,8 +225,7 @@ fn count_sums(tally: &mut Tally, month: &Month, (run, group): (u64, u64), sums: 
         true => tally.add("report of a group that lodged", is),
         false => tally.add("report of a group that never lodged", is),
     }
-    let settled = month.settled[run as usize - 1];
-    tally.add("report, its run settled", settled.into());
+    tally.add("report, its run", acts::state(month, run));
     let other = month.report(&month.figures(3 - run), group);
     tally.add(
         "report, other sums in the other run",

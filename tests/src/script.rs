@@ -6,10 +6,10 @@ use crate::linked;
 use std::fmt;
 
 /// The number of a record that overwrites a field of the desk's state.
-const DAMAGE: u64 = 12;
+const DAMAGE: u64 = 13;
 
 /// The number of a record by which somebody else writes in a store.
-const WRITE: u64 = 13;
+const WRITE: u64 = 14;
 
 /// What an accepted status is in a script's output: this and the status. So it is the number of no cause.
 pub const STATUS_FROM: u64 = 100;
@@ -78,7 +78,7 @@ fn record(number: u64, lent: Lengths, fields: &[u64]) -> Vec<u64> {
 
 impl fmt::Display for Damage {
     fn fmt(&self, f: &mut fmt::Formatter) -> fmt::Result {
-        const NAMES: [&str; 18] = [
+        const NAMES: [&str; 20] = [
             "nothing",
             "quarters",
             "F",
@@ -91,12 +91,14 @@ impl fmt::Display for Damage {
             "delta group",
             "version count",
             "log rows used",
-            "run 1 settled",
-            "run 2 settled",
+            "run 1 closed",
+            "run 2 closed",
             "point made free, at",
             "point's since, kind, area, partner, at",
             "version's number, point, row, status, at",
             "opening length of schedules",
+            "run 1 issued",
+            "run 2 issued",
         ];
         let Damage { which, place, to } = self;
         let name = NAMES.get(*which as usize).unwrap_or(&NAMES[0]);

@@ -91,8 +91,10 @@ pub struct Month<'a> {
     pub points: BTreeMap<u64, Point>,
     /// The submitted series in their order: the used rows of values.
     pub rows: Vec<&'a [u64]>,
-    /// Whether run 1 and run 2 are settled.
-    pub settled: [bool; 2],
+    /// Whether run 1 and run 2 are closed.
+    pub closed: [bool; 2],
+    /// Whether run 1 and run 2 are issued.
+    pub issued: [bool; 2],
     /// The rows of the log: day, point, run, new version.
     pub log: Vec<[u64; 4]>,
     /// The schedule that each group lodged last.
@@ -132,7 +134,8 @@ impl<'a> Month<'a> {
             groups,
             points: BTreeMap::new(),
             rows: Vec::new(),
-            settled: [false; 2],
+            closed: [false; 2],
+            issued: [false; 2],
             log: Vec::new(),
             lodged: BTreeMap::new(),
         }
@@ -188,7 +191,8 @@ impl<'a> Month<'a> {
                 noticed.expect("a version").status = status;
             }
             Call::Assign { area, group, .. } => self.groups[area as usize] = group,
-            Call::Settle { run, .. } => self.settle(run),
+            Call::Close { run, .. } => self.closed[run as usize - 1] = true,
+            Call::Issue { run, .. } => self.issue(run),
             Call::Lodge {
                 group, ref series, ..
             } => {
@@ -216,8 +220,8 @@ impl<'a> Month<'a> {
     }
 
     /// Each selected version of run 1 gets 3, each own one of run 2 gets 5.
-    fn settle(&mut self, run: u64) {
-        self.settled[run as usize - 1] = true;
+    fn issue(&mut self, run: u64) {
+        self.issued[run as usize - 1] = true;
         for point in self.points.values_mut() {
             let Some(own) = point.own(run).map(|v| v.number) else {
                 continue;

@@ -1,5 +1,5 @@
-//! Cause 1: each field of the desk's state at the last value inside its limits and at the first outside them; and notices on
-//! versions that somebody else wrote.
+//! Cause 1: each field of the desk's state at the last value inside its limits and at the first outside them; notices on
+//! versions that somebody else wrote; and closes and issues of runs whose flags somebody else wrote.
 
 use emorizugu_tests::call::{Call, Lengths};
 use emorizugu_tests::compare::{compare, expected, Step, Trial};
@@ -18,7 +18,7 @@ const LENT: Lengths = Lengths {
 };
 
 /// The calls of the month.
-const CALLS: [&[u64]; 18] = [
+const CALLS: [&[u64]; 20] = [
     &[
         1, 2, 10, 30, 150, 4, 1, 2, 3, 3, 3, 3, 3, 3, 3, 3, 3, 3, 3, 3, 3, 3,
     ],
@@ -35,9 +35,11 @@ const CALLS: [&[u64]; 18] = [
     &[7, 1, 5],
     &[5, 1, 6, 1, 31],
     &[9, 1, 31],
+    &[12, 1, 32],
     &[7, 2, 5],
     &[11, 2, 5],
     &[9, 2, 151],
+    &[12, 2, 151],
     &[8, 1, 6],
 ];
 
@@ -56,7 +58,7 @@ fn month() -> Trial {
 /// One call of each sort, such as the desk accepts at one time or another; and a second opening.
 fn every_call(month: &Month) -> Vec<(Call, Lengths)> {
     let day = month.day;
-    let calls: [&[u64]; 11] = [
+    let calls: [&[u64]; 12] = [
         CALLS[0],
         &[2, 9, 3, 1, 0, day],
         &[3, 3, day],
@@ -68,6 +70,7 @@ fn every_call(month: &Month) -> Vec<(Call, Lengths)> {
         &[9, 1, 400],
         &[10, 7, day, 3, 4],
         &[11, 1, 5],
+        &[12, 1, day],
     ];
     calls.iter().map(|c| (call(c), LENT)).collect()
 }
@@ -173,7 +176,8 @@ fields! {
     delta_group "delta group"
     version_count "version count"
     log_rows_used "log rows used"
-    run_settled "run settled"
+    run_closed "run closed"
+    run_issued "run issued"
     points_day "point's day"
     points_kind "point's kind"
     points_area "point's area"
@@ -219,15 +223,15 @@ fn no_quarters() {
             let mut records = plain.records.clone();
             records.splice(calls..calls, block);
             let mut linked = script::run(&records, trial.stores());
-            let answers: Vec<Vec<u64>> = linked.answers.drain(calls..calls + 11).collect();
+            let answers: Vec<Vec<u64>> = linked.answers.drain(calls..calls + 12).collect();
             for (answer, call) in answers.iter().zip(&others) {
                 assert_eq!(answer[0], 1, "{call} after {calls} calls");
             }
-            assert_eq!(answers[10], [4], "a refused opening after {calls} calls");
+            assert_eq!(answers[11], [4], "a refused opening after {calls} calls");
             assert_eq!(linked, plain.outcome, "after {calls} calls");
         }
 
-        let garbage = (2..=17).map(|which| set(which, 3, [u64::MAX; 4]));
+        let garbage = (2..=19).map(|which| set(which, 3, [u64::MAX; 4]));
         let mut records = plain.records[..calls].to_vec();
         records.extend(garbage.chain([set(1, 0, [0; 4])]));
         records.extend(plain.records.iter().cloned());
@@ -334,4 +338,141 @@ fn notices_on_versions_of_every_status() {
             assert_noticed(&why, &written, (1, 6, answer));
         }
     }
+}
+
+/// What somebody else wrote: whether run 1 and run 2 are closed, whether run 1 and run 2 are issued.
+type Flags = [[bool; 2]; 2];
+
+fn every_flags() -> impl Iterator<Item = Flags> {
+    (0..16).map(|bits| {
+        let flag = |bit: u64| bits >> bit & 1 == 1;
+        [[flag(0), flag(1)], [flag(2), flag(3)]]
+    })
+}
+
+/// The answers to calls on a desk of day 11 with such flags; then the statuses of versions 5 and 6 of point 1, status 2 and 1, and
+/// of version 7 of point 256, whose status somebody else made 4. C is 30, K is 150.
+fn acted([closed, issued]: Flags, asked: &[[u64; 3]]) -> (Vec<u64>, [u64; 3]) {
+    let calls: [&[u64]; 6] = [
+        CALLS[0],
+        CALLS[1],
+        CALLS[2],
+        &[4, 1, 5, 3, 100, 200],
+        &[4, 256, 7, 10, 30, 40],
+        &[4, 1, 6, 11, 101, 201],
+    ];
+    let set = |which, place, to| Record::Damage(Damage { which, place, to });
+    let flag = |which, value: bool| set(which, 0, [value.into(), 0, 0, 0]);
+    let record = |numbers: &[u64]| Record::Call(call(numbers), LENT);
+    let mut records: Vec<Record> = calls.map(record).to_vec();
+    records.push(set(16, 1, [7, 256, 1, 4]));
+    records.extend([flag(12, closed[0]), flag(13, closed[1])]);
+    records.extend([flag(18, issued[0]), flag(19, issued[1])]);
+    records.extend(asked.iter().map(|numbers| record(numbers)));
+    records.extend([[8, 1, 5], [8, 1, 6], [8, 256, 7]].map(|numbers| record(&numbers)));
+    let answers = script::run(&records, month().stores()).answers.concat();
+    let answers = &answers[calls.len()..];
+    let (answers, statuses) = answers.split_at(asked.len());
+    let status = |at: usize| statuses[at] - script::STATUS_FROM;
+    (answers.to_vec(), [0, 1, 2].map(status))
+}
+
+/// An issue is answered by its own run's flags alone: 38 where it is not closed, issued or not; 39 where it is issued; else it is
+/// accepted on every day from the desk's on, C and K included, and restates its own run's version alone.
+#[test]
+fn issue_goes_by_the_flags_of_its_run_alone() {
+    for flags in every_flags() {
+        let [closed, issued] = flags;
+        for run in 1..=2 {
+            let at = run as usize - 1;
+            let (answer, statuses) = match (closed[at], issued[at], run) {
+                (false, _, _) => (38, [2, 1, 4]),
+                (true, true, _) => (39, [2, 1, 4]),
+                (true, false, 1) => (0, [3, 1, 4]),
+                (true, false, _) => (0, [2, 1, 5]),
+            };
+            for day in [11, 30, 31, 150, 151, 400] {
+                let given = acted(flags, &[[12, run, day]]);
+                let why = format!("run {run}, day {day}, {flags:?}");
+                assert_eq!(given, (vec![answer], statuses), "{why}");
+            }
+            let before = [
+                ([12, run, 10], 5),
+                ([12, run, 401], 3),
+                ([12, run + 2, 10], 3),
+            ];
+            for (asked, answer) in before {
+                let given = acted(flags, &[asked]);
+                assert_eq!(given, (vec![answer], [2, 1, 4]), "{asked:?}, {flags:?}");
+            }
+        }
+    }
+}
+
+/// A close is answered by its day and by what is closed: 27 up to the deadline, 28 where the run is closed, 29 for run 2 where run
+/// 1 is not; what is issued counts for nothing. It changes no status.
+#[test]
+fn close_goes_by_its_day_and_by_what_is_closed() {
+    for flags in every_flags() {
+        let [closed, _] = flags;
+        for (run, deadline) in [(1, 30), (2, 150)] {
+            let answer = match (run, closed) {
+                (1, [true, _]) | (2, [_, true]) => 28,
+                (2, [false, false]) => 29,
+                _ => 0,
+            };
+            let days = [
+                (10, 5),
+                (11, 27),
+                (deadline, 27),
+                (deadline + 1, answer),
+                (400, answer),
+                (401, 3),
+            ];
+            for (day, answer) in days {
+                let given = acted(flags, &[[9, run, day]]);
+                let why = format!("run {run}, day {day}, {flags:?}");
+                assert_eq!(given, (vec![answer], [2, 1, 4]), "{why}");
+            }
+        }
+    }
+}
+
+/// What an accepted close and an accepted issue write: the flag of the run, which the next of each asks for, and the day.
+#[test]
+fn close_and_issue_set_a_flag_and_the_day() {
+    let none = [[false; 2]; 2];
+    let asked = [
+        [9, 1, 40],
+        [12, 1, 39],
+        [9, 1, 40],
+        [12, 2, 40],
+        [12, 1, 41],
+        [12, 1, 40],
+        [12, 1, 41],
+        [9, 1, 41],
+    ];
+    let answers = vec![0, 5, 28, 38, 0, 5, 39, 28];
+    assert_eq!(acted(none, &asked), (answers, [3, 1, 4]));
+    let asked = [
+        [9, 1, 151],
+        [9, 2, 151],
+        [12, 2, 152],
+        [12, 1, 151],
+        [9, 2, 152],
+        [12, 2, 152],
+        [12, 1, 152],
+    ];
+    let answers = vec![0, 0, 0, 5, 28, 39, 0];
+    assert_eq!(acted(none, &asked), (answers, [3, 1, 5]));
+    let issued = [[false; 2], [true, false]];
+    let asked = [
+        [12, 1, 31],
+        [9, 1, 31],
+        [12, 1, 31],
+        [9, 2, 151],
+        [12, 2, 151],
+    ];
+    let answers = vec![38, 0, 39, 0, 0];
+    assert_eq!(acted(issued, &asked), (answers, [2, 1, 5]));
 }

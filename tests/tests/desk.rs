@@ -1,6 +1,7 @@
 //! The desk: both desks on months of calls from a seed, on every number at the ends of its range, on calls that are refused,
 //! and where somebody else writes in the stores.
 
+use emorizugu_tests::acts;
 use emorizugu_tests::call::{Call, Lengths};
 use emorizugu_tests::compare::{compare, expected, Step, Trial};
 use emorizugu_tests::damage::FIELDS;
@@ -22,11 +23,11 @@ const LONG: usize = 100;
 /// How often each answer is to have been compared at least.
 const LEAST: u64 = 500;
 
-/// How often each case of lodgings and reports is to have been compared at least.
-const LEAST_SCHEDULES: u64 = 100;
+/// How often each case of lodgings and reports, and of closes and issues, is to have been compared at least.
+const LEAST_CASES: u64 = 100;
 
 /// The answers of each call to an open desk, but for an accepted status.
-const ANSWERS: [(&str, &[u64]); 11] = [
+const ANSWERS: [(&str, &[u64]); 12] = [
     ("open", &[0, 4, 6]),
     ("activate", &[0, 3, 5, 11, 21, 22]),
     ("deactivate", &[0, 3, 5, 11, 12, 23]),
@@ -35,18 +36,22 @@ const ANSWERS: [(&str, &[u64]); 11] = [
     ("assign", &[0, 2, 3, 5, 26]),
     ("show", &[0, 2, 3]),
     ("status", &[3, 12, 24]),
-    ("settle", &[0, 3, 5, 27, 28, 29]),
+    ("close", &[0, 3, 5, 27, 28, 29]),
     ("lodge", &[0, 2, 3, 5, 26]),
     ("report", &[0, 2, 3]),
+    ("issue", &[0, 3, 5, 38, 39]),
 ];
 
 /// Cases that a month can have, with the numbers that they are counted by.
-const CASES: [(&str, &[u64]); 14] = [
+const CASES: [(&str, &[u64]); 15] = [
     ("desk not open", &[1]),
-    ("call to a desk not open", &[2, 3, 4, 5, 6, 7, 8, 9, 10, 11]),
+    (
+        "call to a desk not open",
+        &[2, 3, 4, 5, 6, 7, 8, 9, 10, 11, 12],
+    ),
     (
         "call to a damaged desk",
-        &[1, 2, 3, 4, 5, 6, 7, 8, 9, 10, 11],
+        &[1, 2, 3, 4, 5, 6, 7, 8, 9, 10, 11, 12],
     ),
     ("status given", &[1, 2, 3, 4, 5]),
     ("values of another length", &[2]),
@@ -56,13 +61,19 @@ const CASES: [(&str, &[u64]); 14] = [
     ("next row exceeds values", &[16]),
     ("kind of the series submitted", &[1, 2, 3, 4, 5]),
     ("both sides on one row", &[1, 2, 3, 4, 5]),
-    ("run settled", &[1, 2]),
+    ("run closed", &[1, 2]),
+    ("run issued", &[1, 2]),
     ("assign that moves a delta", &[0, 1]),
     ("log full and no row due", &[0]),
 ];
 
 /// Fields of the state that have no value outside their limits.
-const WIDE: [&str; 3] = ["run settled", "version's status", "unused version"];
+const WIDE: [&str; 4] = [
+    "run closed",
+    "run issued",
+    "version's status",
+    "unused version",
+];
 
 /// The month up to some step.
 fn cut(trial: &Trial, steps: usize) -> Trial {
@@ -76,7 +87,11 @@ fn cut(trial: &Trial, steps: usize) -> Trial {
 fn months_agree() {
     let (mut random, mut tally) = (Random::new(5), Tally::new());
     for _ in 0..MONTHS {
-        let month = months::month(&mut random, Size::Short);
+        let size = match random.below(4) {
+            0 => Size::Issued(1 + random.below(4) as u64),
+            _ => Size::Short,
+        };
+        let month = months::month(&mut random, size);
         compare(&month, &mut tally);
         let steps = random.below(month.steps.len());
         compare(&cut(&month, steps), &mut Tally::new());
@@ -86,8 +101,10 @@ fn months_agree() {
     for (what, numbers) in ANSWERS.into_iter().chain(cases) {
         tally.demand(what, numbers, LEAST);
     }
-    for (what, numbers) in schedules::CASES.into_iter().chain(schedules::WRAPS) {
-        tally.demand(what, numbers, LEAST_SCHEDULES);
+    let cases = schedules::CASES.into_iter().chain(schedules::WRAPS);
+    let cases = cases.chain(acts::CASES).chain(acts::BETWEEN);
+    for (what, numbers) in cases {
+        tally.demand(what, numbers, LEAST_CASES);
     }
     for field in FIELDS.iter().filter(|field| !WIDE.contains(&field.name)) {
         assert!(tally.all(field.name) >= LEAST, "damage to {}", field.name);
@@ -165,7 +182,10 @@ fn refused_calls_change_nothing() {
         assert_eq!(end, &without.answers[at..], "{}", lines(&going_on));
     }
     tally.print();
-    assert!(tally.count("notice", 37) >= LEAST);
+    for (call, number) in [("notice", 37), ("issue", 38), ("issue", 39)] {
+        let count = tally.count(call, number);
+        assert!(count >= LEAST_CASES, "{call}: {number} only {count} times");
+    }
     assert_eq!(
         ANSWERS.iter().map(|(call, _)| tally.all(call)).sum::<u64>(),
         36_000
@@ -194,7 +214,7 @@ fn accepted() -> Trial {
         log: 20,
         schedules: 128,
     };
-    let fields: [&[u64]; 25] = [
+    let fields: [&[u64]; 27] = [
         &[
             1, 2, 10, 30, 150, 4, 1, 2, 3, 3, 3, 3, 3, 3, 3, 3, 3, 3, 3, 3, 3, 3,
         ],
@@ -221,7 +241,9 @@ fn accepted() -> Trial {
         &[4, 2, 3, 30, 11, 21],
         &[5, 2, 3, 1, 31],
         &[9, 1, 31],
+        &[12, 1, 31],
         &[9, 2, 151],
+        &[12, 2, 152],
     ];
     let step = |numbers: &&[u64]| {
         let call = Call::of(numbers[0], &numbers[1..]).expect("a call");
@@ -322,7 +344,7 @@ fn scripts_stop_before_what_they_cannot_run() {
     for (at, &start) in ends[..records.len()].iter().enumerate() {
         let foreign = [
             (0, 0),
-            (0, 14),
+            (0, 15),
             (0, u64::MAX),
             (1, 13),
             (2, 331),

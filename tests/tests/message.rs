@@ -243,7 +243,7 @@ impl Run {
     /// A call for the writer: one that a file can carry, often with something changed.
     fn handed(&mut self) -> Handed {
         let random = &mut self.random;
-        let kind = 1 + random.below(7) as u64;
+        let kind = 1 + random.below(8) as u64;
         let generator::Call { fields, series, .. } = generator::call(random, kind);
         let mut handed = Handed {
             what: "call as it is",
@@ -254,9 +254,9 @@ impl Run {
         let used = handed.fields.len();
         match random.below(12) {
             0 => {
-                handed.what = "kind not 1 to 7";
+                handed.what = "kind not 1 to 8";
                 let foreign = random.of(&generator::FOREIGN_KINDS);
-                let any = random.word().max(8);
+                let any = random.word().max(9);
                 handed.kind = random.of(&[foreign, foreign, any, 1 << 63, u64::MAX]);
                 if random.once_in(2) {
                     handed.fields.fill(u64::MAX);
@@ -387,7 +387,7 @@ fn readers_agree_on_files() {
     tally.demand("read", &[0, NO_CALL, SHORT, 31, 32, 33, 34, 35], LEAST);
     tally.demand("refused inside the energies", &[31, 32], LEAST);
     tally.demand("start beyond the end", &[31], LEAST);
-    tally.demand("kind read", &[1, 2, 3, 4, 5, 6, 7], LEAST);
+    tally.demand("kind read", &[1, 2, 3, 4, 5, 6, 7, 8], LEAST);
     tally.demand("field read", &EDGES, LEAST);
     let most = MOST_ENERGIES as u64;
     tally.demand("count read", &[most - 1, most], LEAST);
@@ -406,7 +406,7 @@ fn writers_agree_on_calls() {
     assert_eq!(tally.all("write"), WRITES);
     tally.demand("write", &[0, SHORT, 33, 34, 35], LEAST);
     let refusals = [
-        ("kind not 1 to 7", 33),
+        ("kind not 1 to 8", 33),
         ("field of 2^63 or more", 34),
         ("energy outside -2^62 to 2^62 - 1", 34),
         ("series of 2,981", 34),

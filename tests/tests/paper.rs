@@ -1,5 +1,5 @@
-//! The files that document 01 writes out, and those that its decided points and document 02's lines of selected versions and
-//! its notices do.
+//! The files that document 01 writes out, and those that its decided points and document 02's lines of selected versions, its
+//! notices and its close and issue do.
 
 use emorizugu_tests::call::Lengths;
 use emorizugu_tests::linked;
@@ -70,6 +70,11 @@ fn verdicts_on_written_out_files() {
         (EXAMPLE, "the example"),
         ("04 01 01 02 00", "count 0 is read"),
         ("07 FF*8 7F 00", "2^63 - 1 in nine bytes"),
+        ("08 01 1F", "kind 8"),
+        (
+            "08 00 FF*8 7F 07 01 1F",
+            "kind 8 with any fields, and kind 7",
+        ),
         ("04 01 01 02 A4 17 00*2980", "2,980 energies"),
     ];
     for (line, why) in accepted {
@@ -92,9 +97,13 @@ fn verdicts_on_written_out_files() {
         ("80*8 00", 32, 0, "the ninth byte is 0"),
         ("07 FF*9 01 00", 32, 0, "a tenth byte"),
         ("00", 33, 0, "kind 0"),
-        ("08", 33, 0, "kind 8"),
+        ("09", 33, 0, "kind 9"),
+        ("0A", 33, 0, "kind 10"),
+        ("08", 31, 0, "the file ends behind kind 8"),
+        ("08 01", 31, 0, "the file ends behind the run of kind 8"),
         ("88 01", 33, 0, "kind 136, its form is right"),
-        ("87 00", 32, 0, "kind 7 in two bytes: form before meaning"),
+        ("88 00", 32, 0, "kind 8 in two bytes: form before meaning"),
+        ("89 00", 32, 0, "kind 9 in two bytes"),
         ("04 01 01 02 A5 17", 34, 0, "count 2,981 before any energy"),
         ("04 01 01 02 A5 97 00", 32, 0, "a longer form of 2,981"),
         (
@@ -115,7 +124,8 @@ fn verdicts_on_written_out_files() {
             3,
             "the second call's last field",
         ),
-        ("07 01 1F 07 01 20 09", 33, 6, "the third call's kind"),
+        ("07 01 1F 08 01 20 09", 33, 6, "the third call's kind"),
+        ("08 01 1F 08 01 80 00", 32, 3, "the second issue's day"),
         (
             "07 01 1F 04 01 01 02 A5 17",
             34,
@@ -310,8 +320,10 @@ const CORRECTED_FIGURES: &str =
 
 const CORRECTED_LOG: [[u64; 4]; 3] = [[2, 1, 1, 7], [2, 2, 1, 1], [31, 2, 2, 2]];
 
-const SETTLE_1: &str = "07 01 1F";
-const SETTLE_2: &str = "07 02 97 01";
+const CLOSE_1: &str = "07 01 1F";
+const ISSUE_1: &str = "08 01 1F";
+const CLOSE_2: &str = "07 02 97 01";
+const ISSUE_2: &str = "08 02 97 01";
 
 /// Document 02: "After the T lines the desk program prints `S run point version status`, runs rising, then points rising, for
 /// points with a selection."
@@ -341,32 +353,32 @@ const SELECTIONS: [Selections; 15] = [
         log: &CORRECTED_LOG,
     },
     Selections {
-        why: "run 1 settled: 3, in run 2 too where it has no own; no row of the log",
-        calls: [&CORRECTED, &[SETTLE_1]],
-        answers: &[0; 8],
+        why: "run 1 issued: 3, in run 2 too where it has no own; no row of the log",
+        calls: [&CORRECTED, &[CLOSE_1, ISSUE_1]],
+        answers: &[0; 9],
         figures: CORRECTED_FIGURES,
         selected: "S 1 1 7 3\nS 1 2 1 3\nS 2 1 7 3\nS 2 2 2 4\n",
         log: &CORRECTED_LOG,
     },
     Selections {
-        why: "both runs settled: 5 for run 2's own alone; no row of the log",
-        calls: [&CORRECTED, &[SETTLE_1, SETTLE_2]],
-        answers: &[0; 9],
+        why: "both runs issued: 5 for run 2's own alone; no row of the log",
+        calls: [&CORRECTED, &[CLOSE_1, ISSUE_1, CLOSE_2, ISSUE_2]],
+        answers: &[0; 11],
         figures: CORRECTED_FIGURES,
         selected: "S 1 1 7 3\nS 1 2 1 3\nS 2 1 7 3\nS 2 2 2 5\n",
         log: &CORRECTED_LOG,
     },
     Selections {
-        why: "run 1 settled behind K: run 2's own keeps 4",
-        calls: [&CORRECTED, &["07 01 97 01"]],
-        answers: &[0; 8],
+        why: "run 1 closed and issued behind K: run 2's own keeps 4",
+        calls: [&CORRECTED, &["07 01 97 01", "08 01 97 01"]],
+        answers: &[0; 9],
         figures: CORRECTED_FIGURES,
         selected: "S 1 1 7 3\nS 1 2 1 3\nS 2 1 7 3\nS 2 2 2 4\n",
         log: &CORRECTED_LOG,
     },
     Selections {
-        why: "refused settles, on a day that has passed, too early, and of run 2 before run 1",
-        calls: [&CORRECTED, &["07 01 1E", "07 02 1F", SETTLE_2]],
+        why: "refused closes, on a day that has passed, too early, and of run 2 before run 1",
+        calls: [&CORRECTED, &["07 01 1E", "07 02 1F", CLOSE_2]],
         answers: &[0, 0, 0, 0, 0, 0, 0, 5, 27, 29],
         figures: CORRECTED_FIGURES,
         selected: "S 1 1 7 2\nS 1 2 1 2\nS 2 1 7 2\nS 2 2 2 4\n",
@@ -374,8 +386,8 @@ const SELECTIONS: [Selections; 15] = [
     },
     Selections {
         why: "the version below keeps 2, and it is not the selected one",
-        calls: [&BY_FIRST, &[SETTLE_1]],
-        answers: &[0; 5],
+        calls: [&BY_FIRST, &[CLOSE_1, ISSUE_1]],
+        answers: &[0; 6],
         figures: "G 1 1 1 6\nT 1 1 6\nG 2 1 1 6\nT 2 1 6\n",
         selected: "S 1 1 2 3\nS 2 1 2 3\n",
         log: &[[2, 1, 1, 1], [3, 1, 1, 2]],
@@ -401,8 +413,11 @@ const SELECTIONS: [Selections; 15] = [
     },
     Selections {
         why: "run 2 has no own below what run 1 selects",
-        calls: [&AFTER_FIRST, &["05 01 02 01 1E", "05 01 01 01 1F", SETTLE_1]],
-        answers: &[0, 0, 0, 0, 0, 37, 0],
+        calls: [
+            &AFTER_FIRST,
+            &["05 01 02 01 1E", "05 01 01 01 1F", CLOSE_1, ISSUE_1],
+        ],
+        answers: &[0, 0, 0, 0, 0, 37, 0, 0],
         figures: "G 1 1 1 6\nT 1 1 6\nG 2 1 1 6\nT 2 1 6\n",
         selected: "S 1 1 2 3\nS 2 1 2 3\n",
         log: &[[30, 1, 1, 2]],
@@ -416,17 +431,20 @@ const SELECTIONS: [Selections; 15] = [
         log: &[[31, 1, 2, 2]],
     },
     Selections {
-        why: "a version submitted after the settle is check data",
-        calls: [&BY_FIRST, &[SETTLE_1, "04 01 03 20 01 0E"]],
-        answers: &[0; 6],
+        why: "a version submitted after the issue is check data",
+        calls: [&BY_FIRST, &[CLOSE_1, ISSUE_1, "04 01 03 20 01 0E"]],
+        answers: &[0; 7],
         figures: "G 1 1 1 6\nT 1 1 6\nG 2 1 1 6\nT 2 1 6\n",
         selected: "S 1 1 2 3\nS 2 1 2 3\n",
         log: &[[2, 1, 1, 1], [3, 1, 1, 2]],
     },
     Selections {
         why: "and becomes run 2's own",
-        calls: [&BY_FIRST, &[SETTLE_1, "04 01 03 20 01 0E", "05 01 03 01 21"]],
-        answers: &[0; 7],
+        calls: [
+            &BY_FIRST,
+            &[CLOSE_1, ISSUE_1, "04 01 03 20 01 0E", "05 01 03 01 21"],
+        ],
+        answers: &[0; 8],
         figures: "G 1 1 1 6\nT 1 1 6\nG 2 1 1 7\nT 2 1 7\n",
         selected: "S 1 1 2 3\nS 2 1 3 4\n",
         log: &[[2, 1, 1, 1], [3, 1, 1, 2], [33, 1, 2, 3]],
@@ -460,15 +478,16 @@ const SELECTIONS: [Selections; 15] = [
 /// Versions 5 and 7 of point 1, 5 and 7 Wh, both on day 11.
 const WITH_A_GAP: [&str; 4] = [OPEN, POINT_1, "04 01 05 0B 01 0A", "04 01 07 0B 01 0E"];
 
-/// Version 1 of point 1, 5 Wh, on day 2; version 2, 6 Wh, on day 11, with a positive notice on day 31; run 1 settled; version 3,
-/// 7 Wh, on day 32.
-const SETTLED_AND_CORRECTED: [&str; 7] = [
+/// Version 1 of point 1, 5 Wh, on day 2; version 2, 6 Wh, on day 11, with a positive notice on day 31; run 1 closed and issued;
+/// version 3, 7 Wh, on day 32.
+const ISSUED_AND_CORRECTED: [&str; 8] = [
     OPEN,
     POINT_1,
     "04 01 01 02 01 0A",
     "04 01 02 0B 01 0C",
     "05 01 02 01 1F",
-    SETTLE_1,
+    CLOSE_1,
+    ISSUE_1,
     "04 01 03 20 01 0E",
 ];
 
@@ -499,12 +518,13 @@ const NOTICES: [Selections; 13] = [
             &WITH_A_GAP,
             &[
                 "05 01 07 01 1E",
-                SETTLE_1,
+                CLOSE_1,
+                ISSUE_1,
                 "05 01 05 01 1F",
                 "05 01 05 00 1F",
             ],
         ],
-        answers: &[0, 0, 0, 0, 0, 0, 37, 37],
+        answers: &[0, 0, 0, 0, 0, 0, 0, 37, 37],
         figures: "G 1 1 1 7\nT 1 1 7\nG 2 1 1 7\nT 2 1 7\n",
         selected: "S 1 1 7 3\nS 2 1 7 3\n",
         log: &[[30, 1, 1, 7]],
@@ -539,7 +559,7 @@ const NOTICES: [Selections; 13] = [
     Selections {
         why: "on older versions of status 3 and 4; the highest becomes run 2's own",
         calls: [
-            &SETTLED_AND_CORRECTED,
+            &ISSUED_AND_CORRECTED,
             &[
                 "05 01 01 01 21",
                 "05 01 01 00 21",
@@ -549,7 +569,7 @@ const NOTICES: [Selections; 13] = [
                 "05 01 03 00 21",
             ],
         ],
-        answers: &[0, 0, 0, 0, 0, 0, 0, 37, 37, 37, 37, 0, 25],
+        answers: &[0, 0, 0, 0, 0, 0, 0, 0, 37, 37, 37, 37, 0, 25],
         figures: "G 1 1 1 5\nT 1 1 5\nG 2 1 1 7\nT 2 1 7\n",
         selected: "S 1 1 1 3\nS 2 1 3 4\n",
         log: &[[2, 1, 1, 1], [31, 1, 2, 2], [33, 1, 2, 3]],
@@ -649,12 +669,12 @@ const NOTICES: [Selections; 13] = [
         log: &[[150, 1, 2, 2]],
     },
     Selections {
-        why: "on an older version of status 5: 5 or 11, since run 2 is settled after K",
+        why: "on an older version of status 5: 5 or 11, since run 2 is closed after K",
         calls: [
-            &SETTLED_AND_CORRECTED,
-            &[SETTLE_2, "05 01 02 01 96 01", "05 01 02 01 97 01"],
+            &ISSUED_AND_CORRECTED,
+            &[CLOSE_2, ISSUE_2, "05 01 02 01 96 01", "05 01 02 01 97 01"],
         ],
-        answers: &[0, 0, 0, 0, 0, 0, 0, 0, 5, 11],
+        answers: &[0, 0, 0, 0, 0, 0, 0, 0, 0, 0, 5, 11],
         figures: "G 1 1 1 5\nT 1 1 5\nG 2 1 1 6\nT 2 1 6\n",
         selected: "S 1 1 1 3\nS 2 1 2 5\n",
         log: &[[2, 1, 1, 1], [31, 1, 2, 2]],
@@ -680,6 +700,158 @@ const NOTICES: [Selections; 13] = [
     },
 ];
 
+/// Document 02: "Settle becomes close (records that the run is closed) and issue (sets status 3 or 5)"; "an older file's settle
+/// is read as close"; "issue asks nothing of the other run"; "38, issue of a run not closed, after 5; 39, issue of a run already
+/// issued, after 38".
+const ACTS: [Selections; 13] = [
+    Selections {
+        why: "run 1 closed: every status is as before",
+        calls: [&CORRECTED, &[CLOSE_1]],
+        answers: &[0; 8],
+        figures: CORRECTED_FIGURES,
+        selected: "S 1 1 7 2\nS 1 2 1 2\nS 2 1 7 2\nS 2 2 2 4\n",
+        log: &CORRECTED_LOG,
+    },
+    Selections {
+        why: "both runs closed, as by the settles of an older file: 2 and 4",
+        calls: [&CORRECTED, &[CLOSE_1, CLOSE_2]],
+        answers: &[0; 9],
+        figures: CORRECTED_FIGURES,
+        selected: "S 1 1 7 2\nS 1 2 1 2\nS 2 1 7 2\nS 2 2 2 4\n",
+        log: &CORRECTED_LOG,
+    },
+    Selections {
+        why: "run 2 closed and issued, run 1 closed alone: 5 for run 2's own, and 2 where it has none",
+        calls: [&CORRECTED, &[CLOSE_1, CLOSE_2, ISSUE_2]],
+        answers: &[0; 10],
+        figures: CORRECTED_FIGURES,
+        selected: "S 1 1 7 2\nS 1 2 1 2\nS 2 1 7 2\nS 2 2 2 5\n",
+        log: &CORRECTED_LOG,
+    },
+    Selections {
+        why: "and run 1 issued behind it",
+        calls: [&CORRECTED, &[CLOSE_1, CLOSE_2, ISSUE_2, "08 01 97 01"]],
+        answers: &[0; 11],
+        figures: CORRECTED_FIGURES,
+        selected: "S 1 1 7 3\nS 1 2 1 3\nS 2 1 7 3\nS 2 2 2 5\n",
+        log: &CORRECTED_LOG,
+    },
+    Selections {
+        why: "both runs closed, and run 1 issued before run 2",
+        calls: [&CORRECTED, &[CLOSE_1, CLOSE_2, "08 01 97 01", ISSUE_2]],
+        answers: &[0; 11],
+        figures: CORRECTED_FIGURES,
+        selected: "S 1 1 7 3\nS 1 2 1 3\nS 2 1 7 3\nS 2 2 2 5\n",
+        log: &CORRECTED_LOG,
+    },
+    Selections {
+        why: "issues of runs that are not closed: 38, of run 2 too where run 1 is closed or issued",
+        calls: [
+            &CORRECTED,
+            &[ISSUE_1, "08 02 1F", CLOSE_1, "08 02 1F", ISSUE_1, ISSUE_2],
+        ],
+        answers: &[0, 0, 0, 0, 0, 0, 0, 38, 38, 0, 38, 0, 38],
+        figures: CORRECTED_FIGURES,
+        selected: "S 1 1 7 3\nS 1 2 1 3\nS 2 1 7 3\nS 2 2 2 4\n",
+        log: &CORRECTED_LOG,
+    },
+    Selections {
+        why: "an issue of a run that is issued: 39, which moves no day; a close of one that is closed, and issued or not: 28",
+        calls: [
+            &CORRECTED,
+            &[CLOSE_1, CLOSE_1, ISSUE_1, "08 01 97 01", ISSUE_1, CLOSE_1],
+        ],
+        answers: &[0, 0, 0, 0, 0, 0, 0, 0, 28, 0, 39, 39, 28],
+        figures: CORRECTED_FIGURES,
+        selected: "S 1 1 7 3\nS 1 2 1 3\nS 2 1 7 3\nS 2 2 2 4\n",
+        log: &CORRECTED_LOG,
+    },
+    Selections {
+        why: "3 and 5 before 38 and 39",
+        calls: [
+            &CORRECTED,
+            &[
+                "08 00 1F",
+                "08 03 1F",
+                "08 01 91 03",
+                "08 01 1E",
+                CLOSE_1,
+                ISSUE_1,
+                "08 01 1E",
+                "08 01 91 03",
+            ],
+        ],
+        answers: &[0, 0, 0, 0, 0, 0, 0, 3, 3, 3, 5, 0, 0, 5, 3],
+        figures: CORRECTED_FIGURES,
+        selected: "S 1 1 7 3\nS 1 2 1 3\nS 2 1 7 3\nS 2 2 2 4\n",
+        log: &CORRECTED_LOG,
+    },
+    Selections {
+        why: "a submission and its notice between close and issue: the issue restates what run 1 selected",
+        calls: [
+            &BY_FIRST,
+            &[CLOSE_1, "04 01 03 20 01 0E", "05 01 03 01 21", "08 01 22"],
+        ],
+        answers: &[0; 8],
+        figures: "G 1 1 1 6\nT 1 1 6\nG 2 1 1 7\nT 2 1 7\n",
+        selected: "S 1 1 2 3\nS 2 1 3 4\n",
+        log: &[[2, 1, 1, 1], [3, 1, 1, 2], [33, 1, 2, 3]],
+    },
+    Selections {
+        why: "both set the day",
+        calls: [
+            &BY_FIRST,
+            &[
+                "07 01 28",
+                "04 01 03 27 01 0E",
+                "08 01 29",
+                "04 01 03 28 01 0E",
+                "04 01 03 29 01 0E",
+            ],
+        ],
+        answers: &[0, 0, 0, 0, 0, 5, 0, 5, 0],
+        figures: "G 1 1 1 6\nT 1 1 6\nG 2 1 1 6\nT 2 1 6\n",
+        selected: "S 1 1 2 3\nS 2 1 2 3\n",
+        log: &[[2, 1, 1, 1], [3, 1, 1, 2]],
+    },
+    Selections {
+        why: "a close on both sides of C and of K, and of run 2 before run 1",
+        calls: [
+            &[OPEN],
+            &[
+                "07 01 1E",
+                "07 02 96 01",
+                CLOSE_2,
+                CLOSE_1,
+                "07 02 96 01",
+                CLOSE_2,
+                CLOSE_2,
+                "07 01 97 01",
+            ],
+        ],
+        answers: &[0, 27, 27, 29, 0, 27, 0, 28, 28],
+        figures: "T 1 1 0\nT 2 1 0\n",
+        selected: "",
+        log: &[],
+    },
+    Selections {
+        why: "with no version both acts of both runs are accepted",
+        calls: [&[OPEN], &[CLOSE_1, ISSUE_1, CLOSE_2, ISSUE_2]],
+        answers: &[0; 5],
+        figures: "T 1 1 0\nT 2 1 0\n",
+        selected: "",
+        log: &[],
+    },
+    Selections {
+        why: "with check data alone, which an issue leaves",
+        calls: [&AFTER_FIRST, &[CLOSE_1, ISSUE_1, CLOSE_2, ISSUE_2]],
+        answers: &[0; 8],
+        figures: "T 1 1 0\nT 2 1 0\n",
+        selected: "",
+        log: &[],
+    },
+];
+
 /// Calls with their answers where the log has one row, which version 1 of point 1 takes on day 2; versions 2 and 3 are check
 /// data.
 const FULL_LOG: [(&str, u64); 11] = [
@@ -698,12 +870,13 @@ const FULL_LOG: [(&str, u64); 11] = [
 
 /// The lists that are written out.
 fn written_out() -> impl Iterator<Item = &'static Selections> {
-    SELECTIONS.iter().chain(&NOTICES)
+    SELECTIONS.iter().chain(&NOTICES).chain(&ACTS)
 }
 
 /// Files without a line S: refused ones, and those of a desk that is not open or has no version.
-const NONE_SELECTED: [(&str, &str); 5] = [
+const NONE_SELECTED: [(&str, &str); 6] = [
     ("07 01 1F", "1 1\n"),
+    ("08 01 1F", "1 1\n"),
     (OPEN, "1 0\nT 1 1 0\nT 2 1 0\n"),
     (
         "01 09 0A 1E 96 01 04 01 02 03*14  02 01 01 01 00 00  04 01 07 02 01 D0 0F",
@@ -782,7 +955,7 @@ fn compare_replay(case: &Selections, replay: fn(&[u8], &mut Lent), left: usize) 
     assert_eq!(logged, (used as u64, log), "{}", case.why);
 }
 
-/// A settle takes no row of the log: it is accepted where none is left.
+/// A close and an issue take no row of the log: they are accepted where none is left.
 #[test]
 fn a_replay_tells_the_selected_versions() {
     for case in written_out() {
@@ -826,8 +999,8 @@ fn scripted(file: &[u8], rows: usize) -> Outcome {
 }
 
 #[test]
-fn a_script_answers_the_notices() {
-    for case in &NOTICES {
+fn a_script_answers_the_notices_the_closes_and_the_issues() {
+    for case in NOTICES.iter().chain(&ACTS) {
         let Outcome { answers, stores } = scripted(&case.file(), 8);
         assert_eq!(answers.concat(), case.answers, "{}", case.why);
         let log = case.log.concat();
@@ -839,7 +1012,7 @@ fn a_script_answers_the_notices() {
 #[test]
 fn a_replay_tells_the_selected_versions_of_a_refused_file() {
     let example = "S 1 1 7 2\nS 2 1 7 2\n";
-    let selected = ["", "", "", example, example];
+    let selected = ["", "", "", "", example, example];
     for ((file, _), selected) in NONE_SELECTED.into_iter().zip(selected) {
         for replay in [plain_replay, linked_replay] {
             let mut lent = lent(1);

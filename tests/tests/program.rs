@@ -4,6 +4,7 @@
 //! `EMORIZUGU_PROGRAM` names the program; `tests/run` always sets it. Without it the tests of the program are left
 //! out (`cargo test` says so of each), and fail where they are asked for.
 
+use emorizugu_tests::acts;
 use emorizugu_tests::call::Call;
 use emorizugu_tests::compare::shortest_list;
 use emorizugu_tests::counts;
@@ -21,7 +22,7 @@ use std::env;
 use std::ffi::OsString;
 
 /// Files of at most some thousand bytes.
-const FILES: u64 = 3_000;
+const FILES: u64 = 4_000;
 
 /// Files about as long as the program reads, and longer.
 const LONG: u64 = 200;
@@ -29,8 +30,11 @@ const LONG: u64 = 200;
 /// How often each ending and each case is to have been compared at least.
 const LEAST: u64 = 50;
 
-/// How often each status of a selected version, and 37, is to have been compared at least.
+/// How often each status of a selected version, 37, 38 and 39 are to have been compared at least.
 const LEAST_STATUS: u64 = 300;
+
+/// How often each case of closes and issues is to have been compared at least.
+const LEAST_ACTS: u64 = 10;
 
 /// The program that `EMORIZUGU_PROGRAM` names.
 fn named_program() -> OsString {
@@ -132,7 +136,7 @@ fn count(run: &Run, tally: &mut Tally) {
             tally.add("opening of more than 8", *answer);
         }
     }
-    notices::count_run(tally, run);
+    counts::count_run(tally, run);
     let printed = selections_printed(run);
     let Some(month) = run.desk.month() else {
         tally.add("never opened", number);
@@ -201,11 +205,14 @@ fn the_program_prints_what_the_documents_say() {
     for _ in 0..FILES {
         let size = match random.below(200) {
             0 => Size::Versions,
-            1..=100 => Size::Settled(quarters(&mut random)),
+            1..=120 => Size::Issued(quarters(&mut random)),
             _ => Size::Quarters(quarters(&mut random)),
         };
         let month = months::month(&mut random, size);
         let mut calls = files::calls(&month);
+        if random.once_in(6) {
+            files::older(&mut calls);
+        }
         if random.once_in(6) {
             files::open_before(&mut random, &mut calls, MOST_QUARTERS);
         }
@@ -243,7 +250,16 @@ fn the_program_prints_what_the_documents_say() {
     for (what, numbers) in counts::SELECTIONS.into_iter().chain(notices::NOTICES) {
         tally.demand(what, numbers, LEAST);
     }
+    for (what, numbers) in [acts::STATES, acts::OLDER] {
+        tally.demand(what, numbers, LEAST);
+    }
+    for (what, numbers) in acts::CASES.into_iter().chain(acts::BETWEEN_OF_FILES) {
+        tally.demand(what, numbers, LEAST_ACTS);
+    }
     assert!(tally.count("notice", 37) >= LEAST_STATUS);
+    for number in [0, 38, 39] {
+        assert!(tally.count("issue", number) >= LEAST_STATUS);
+    }
     for (_, name, _) in Shape::ALL {
         assert!(tally.all(name) >= 20, "{name}");
     }
@@ -296,15 +312,15 @@ fn the_program_reads_the_first_65_536_bytes() {
     assert!(figures >= 20, "figures of {figures} files");
 }
 
-/// The month of the most points and versions, before and after each settle.
+/// The month of the most points and versions, before and after each close and issue.
 #[test]
 #[ignore = "EMORIZUGU_PROGRAM names the desk program"]
 fn the_program_prints_the_selected_versions_of_256_points() {
     let program = named_program();
     let (mut random, mut tally) = (Random::new(17), Tally::new());
-    let calls = files::full_month();
-    for settles in 0..=2 {
-        let parts = files::whole(&calls[..calls.len() - 2 + settles]);
+    let months = files::full_months();
+    for calls in &months {
+        let parts = files::whole(calls);
         assert!(parts.concat().len() <= MOST_BYTES);
         let run = Case::new(&mut random, parts).compare(&program);
         assert!(run.answered.iter().all(|(_, answer)| *answer == 0));
@@ -314,9 +330,10 @@ fn the_program_prints_the_selected_versions_of_256_points() {
     for (what, statuses) in counts::STATUSES {
         tally.demand(what, statuses, 128);
     }
-    assert_eq!(tally.all("selected by run 1"), 3 * 256);
-    assert_eq!(tally.all("selected by run 2, its own"), 3 * 128);
-    assert_eq!(tally.all("selected by run 2, as by run 1"), 3 * 128);
+    let months = months.len() as u64;
+    assert_eq!(tally.all("selected by run 1"), months * 256);
+    assert_eq!(tally.all("selected by run 2, its own"), months * 128);
+    assert_eq!(tally.all("selected by run 2, as by run 1"), months * 128);
 }
 
 /// Document 01's own input and output, with the lines of document 02.

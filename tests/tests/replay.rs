@@ -1,6 +1,7 @@
 //! The replay of a whole message file: the linked one and the second one on files of months, with stores, series
 //! buffers, answers and summaries of many lengths, everything compared whole.
 
+use emorizugu_tests::acts;
 use emorizugu_tests::call::{Call, Lengths};
 use emorizugu_tests::compare::shortest_list;
 use emorizugu_tests::counts;
@@ -19,7 +20,7 @@ use emorizugu_tests::tally::Tally;
 use emorizugu_tests::worked::GROUPS;
 
 /// Files that are compared.
-const FILES: u64 = 12_000;
+const FILES: u64 = 16_000;
 
 /// How often each ending and each case is to have been compared at least.
 const LEAST: u64 = 100;
@@ -31,14 +32,15 @@ const LEAST_STATUS: u64 = 500;
 const FENCE: [u64; 4] = [0x5eed_5eed_5eed_5eed; 4];
 
 /// The answers of each call of a file. A replay lends no store in another length than that of the opening.
-const ANSWERS: [(&str, &[u64]); 7] = [
+const ANSWERS: [(&str, &[u64]); 8] = [
     ("open", &[0, 4, 6]),
     ("activate", &[0, 1, 3, 5, 11, 21, 22]),
     ("deactivate", &[0, 1, 3, 5, 11, 12, 23]),
     ("submit", &[0, 1, 3, 5, 11, 12, 13, 14, 15, 16, 17]),
     ("notice", &[0, 1, 3, 5, 11, 12, 17, 24, 25, 37]),
     ("assign", &[0, 1, 3, 5, 26]),
-    ("settle", &[0, 1, 3, 5, 27, 28, 29]),
+    ("close", &[0, 1, 3, 5, 27, 28, 29]),
+    ("issue", &[0, 1, 3, 5, 38, 39]),
 ];
 
 /// A file, and what a replay of it is lent.
@@ -159,7 +161,7 @@ impl Case {
         for (call, answer) in &run.answered {
             tally.add(call.name(), *answer);
         }
-        notices::count_run(tally, run);
+        counts::count_run(tally, run);
         self.count_opening(run, tally);
         self.count_answers(run, tally);
     }
@@ -313,6 +315,9 @@ fn case(random: &mut Random, size: Size) -> (Case, Shape) {
     let quarters = (right.book / BOOK_ROWS) as usize;
     let lengths = lengths(random, quarters, right);
     let mut calls = files::calls(&month);
+    if random.once_in(6) {
+        files::older(&mut calls);
+    }
     if random.once_in(3) {
         let held = random.of(&[lengths.book / BOOK_ROWS, lengths.schedules / GROUPS]);
         files::open_before(random, &mut calls, held);
@@ -361,7 +366,7 @@ fn files_of_months_agree() {
     for _ in 0..FILES {
         let quarters = random.of(&[1, 1, 1, 2, 2, 3, 4, 8]);
         let size = match random.below(3) {
-            0 => Size::Settled(quarters),
+            0 => Size::Issued(quarters),
             _ => Size::Quarters(quarters),
         };
         let (case, shape) = case(&mut random, size);
@@ -377,7 +382,7 @@ fn files_of_months_agree() {
     tally.demand("count above the series buffer", &[35], LEAST);
     tally.demand("the answers are full", &[35], LEAST);
     tally.demand("as the file's verdict", &[0, 31, 32, 33, 34], LEAST);
-    tally.demand("summary's places", &[0, 9, 10, 14], LEAST);
+    tally.demand("summary's places", &[0, 11, 12, 16], LEAST);
     tally.demand("points' places", &[0, 2_303, 2_304, 2_307], LEAST);
     tally.demand("versions' places", &[0, 2_047, 2_048, 2_053], LEAST);
     tally.demand("series buffer", &[0, 1, 2, 3, 4, 5, 7, 8, 9, 2_980], 20);
@@ -417,6 +422,12 @@ fn files_of_months_agree() {
         tally.demand(what, numbers, 50);
     }
     for (what, numbers) in notices::NOTICES.into_iter().chain([notices::FULL_LOG]) {
+        tally.demand(what, numbers, 50);
+    }
+    for (what, numbers) in [acts::STATES, acts::OLDER] {
+        tally.demand(what, numbers, LEAST);
+    }
+    for (what, numbers) in acts::CASES.into_iter().chain(acts::BETWEEN_OF_FILES) {
         tally.demand(what, numbers, 50);
     }
     tally.demand("active, and no version selected", &[1, 2], LEAST_STATUS);
@@ -460,13 +471,13 @@ fn long_files_agree() {
     }
 }
 
-/// The month of the most points and versions, before and after each settle.
+/// The month of the most points and versions, before and after each close and issue.
 #[test]
 fn full_tables_agree() {
-    let (calls, mut tally) = (files::full_month(), Tally::new());
-    for settles in 0..=2 {
+    let mut tally = Tally::new();
+    for calls in files::full_months() {
         let case = Case {
-            parts: files::whole(&calls[..calls.len() - 2 + settles]),
+            parts: files::whole(&calls),
             lengths: Lengths {
                 values: 8 * MOST_VERSIONS as u64,
                 book: 8 * BOOK_ROWS,
@@ -482,7 +493,7 @@ fn full_tables_agree() {
         assert!(run.answered.iter().all(|(_, answer)| *answer == 0));
         let month = run.desk.month().expect("an open desk");
         assert_eq!((month.points.len(), month.rows.len()), (256, MOST_VERSIONS));
-        assert_eq!(month.log.len(), 384, "no row by a settle");
+        assert_eq!(month.log.len(), 384, "no row by a close or an issue");
     }
     tally.print();
     for (what, statuses) in counts::STATUSES {
@@ -490,9 +501,9 @@ fn full_tables_agree() {
     }
 }
 
-/// A file of seven calls that are all accepted.
+/// A file of eight calls that are all accepted.
 fn accepted() -> Parts {
-    let fields: [&[u64]; 7] = [
+    let fields: [&[u64]; 8] = [
         &[
             1, 2, 10, 30, 150, 4, 1, 2, 3, 3, 3, 3, 3, 3, 3, 3, 3, 3, 3, 3, 3, 3,
         ],
@@ -502,6 +513,7 @@ fn accepted() -> Parts {
         &[6, 1, 64, 12],
         &[5, 1, 6, 1, 31],
         &[9, 1, 31],
+        &[12, 1, 32],
     ];
     let call = |numbers: &&[u64]| {
         let call = Call::of(numbers[0], &numbers[1..]).expect("a call");
@@ -521,7 +533,7 @@ fn accepted_case() -> Case {
             schedules: 2 * GROUPS + 1,
         },
         series: 2,
-        answers: 8,
+        answers: 9,
         tables: TABLES,
         seed: 13,
     }
@@ -532,7 +544,7 @@ fn accepted_case() -> Case {
 fn every_cut_agrees() {
     let (case, mut tally) = (accepted_case(), Tally::new());
     for end in 0..=case.file().len() {
-        for answers in 0..=9 {
+        for answers in 0..=10 {
             for series in 0..=3 {
                 let case = Case {
                     parts: files::cut(accepted(), end),
@@ -578,7 +590,7 @@ fn every_length_agrees() {
             compare(lengths, SUMMARY);
         }
     }
-    for summary in 0..=12 {
+    for summary in 0..=14 {
         compare(case.lengths, summary);
     }
     tally.print();
@@ -631,7 +643,7 @@ fn the_example_leaves_what_document_01_says() {
     after.series[0] = 1000;
     after.answers[..4].copy_from_slice(&[0, 0, 0, 14]);
     let [summary, points, versions] = &mut after.tables;
-    summary[..SUMMARY].copy_from_slice(&[4, 43, 1, 1, 1, 1, 4, 2, 0, 0]);
+    summary[..SUMMARY].copy_from_slice(&[4, 43, 1, 1, 1, 1, 4, 2, 0, 0, 0, 0]);
     points.fill(0);
     points[..9].copy_from_slice(&[1, 0, 1, 1, 0, 7, 7, 2, 2]);
     versions[..4].copy_from_slice(&[1, 7, 2, 0]);

@@ -194,7 +194,11 @@ fn program(file: &[u8]) -> String {
         let used = message::fields_of(read.kind).expect("a kind");
         let mut fields = read.fields[..used].to_vec();
         fields.extend(&series[..read.count]);
-        let number = if read.kind == 7 { 9 } else { read.kind };
+        let number = match read.kind {
+            7 => 9,
+            8 => 12,
+            kind => kind,
+        };
         let call = Call::of(number, &fields).expect("a call");
         let quarters = match call {
             Call::Open { quarters, .. } => quarters,
@@ -323,10 +327,14 @@ fn run_2_selects_its_own_or_what_run_1_selects() {
     let log = [[30, 1, 1, 1], [31, 1, 2, 2]];
     assert_eq!(desk.month().expect("an open desk").log, log);
     assert_eq!(give(&mut desk, &[9, 1, 31]), 0);
+    assert_eq!(selected(&desk, 1), [Some((1, 2)), Some((2, 4))]);
+    assert_eq!(give(&mut desk, &[12, 1, 31]), 0);
     assert_eq!(status(&mut desk, 1, 1), Answer::Status(3));
     assert_eq!(status(&mut desk, 1, 2), Answer::Status(4));
     assert_eq!(selected(&desk, 1), [Some((1, 3)), Some((2, 4))]);
     assert_eq!(give(&mut desk, &[9, 2, 151]), 0);
+    assert_eq!(selected(&desk, 1), [Some((1, 3)), Some((2, 4))]);
+    assert_eq!(give(&mut desk, &[12, 2, 151]), 0);
     assert_eq!(status(&mut desk, 1, 2), Answer::Status(5));
     assert_eq!(selected(&desk, 1), [Some((1, 3)), Some((2, 5))]);
     assert_eq!(desk.month().expect("an open desk").log, log);
@@ -336,13 +344,14 @@ fn run_2_selects_its_own_or_what_run_1_selects() {
 #[test]
 fn a_refused_call_does_not_move_the_day() {
     let mut desk = sample();
-    let calls: [(&[u64], u64); 7] = [
+    let calls: [(&[u64], u64); 8] = [
         (&[4, 1, 1, 9, 5, 5], 14),
         (&[4, 99, 1, 9, 5, 5], 12),
         (&[3, 1, 9], 23),
         (&[2, 1, 1, 16, 0, 9], 21),
         (&[2, 9, 1, 1, 0, 9], 22),
         (&[9, 1, 9], 27),
+        (&[12, 1, 9], 38),
         (&[6, 1, 1, 31], 26),
     ];
     for (call, number) in calls {
@@ -382,8 +391,23 @@ fn checks_go_down_the_table() {
     for (call, number, why) in calls {
         assert_eq!(give(&mut desk, call), number, "{why}");
     }
-    for (call, number) in [([9, 1, 31], 0), ([9, 1, 31], 28), ([9, 2, 150], 27)] {
-        assert_eq!(give(&mut desk, &call), number);
+    let calls: [(&[u64], u64, &str); 13] = [
+        (&[12, 1, 6], 5, "5 before 38"),
+        (&[12, 3, 6], 3, "3 before 5"),
+        (&[12, 1, 8], 38, "38"),
+        (&[9, 1, 31], 0, ""),
+        (&[9, 1, 31], 28, "28"),
+        (&[9, 2, 150], 27, "27"),
+        (&[12, 2, 151], 38, "38 for each run"),
+        (&[12, 1, 31], 0, "no deadline of its own"),
+        (&[12, 1, 30], 5, "5 before 39"),
+        (&[12, 1, 31], 39, "39"),
+        (&[9, 2, 151], 0, ""),
+        (&[12, 2, 151], 0, ""),
+        (&[12, 2, 151], 39, "39 for each run"),
+    ];
+    for (call, number, why) in calls {
+        assert_eq!(give(&mut desk, call), number, "{why}");
     }
 }
 

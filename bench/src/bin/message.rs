@@ -100,7 +100,7 @@ impl Growing {
             2 => self.append(3, &[point, day], &[]),
             3 => self.append(5, &[point, 20_250_101_120_000, 1, day], &[]),
             4 => self.append(6, &[3, 17, day], &[]),
-            _ => self.append(7, &[1, day], &[]),
+            _ => self.append(7 + point % 2, &[1, day], &[]),
         }
     }
 
@@ -130,7 +130,7 @@ fn file(name: &str, size: usize) -> Vec<u8> {
         growing.grow(name);
     }
     growing.file.truncate(whole);
-    // Settles of three and four bytes fill the rest, which has at least six.
+    // Closes of three and four bytes fill the rest, which has at least six.
     while growing.file.len() < size {
         let day = match (size - growing.file.len()) % 3 {
             0 => 31,

@@ -108,8 +108,8 @@ fn compare_any() {
     }
     let given = (0..).zip(answers).filter(|&(_, count)| count > 0);
     let given: Vec<String> = given.map(|(n, count)| format!("{n}: {count}")).collect();
-    println!("The five desks are the same in answers, summary, log, series, values, book and schedules on {COMPARED} files of any calls,");
-    println!("with these answers: {};", given.join(", "));
+    println!("The five desks are the same in answers, summary, statuses, log, series, values, book and schedules on {COMPARED} files");
+    println!("of any calls, with these answers: {};", given.join(", "));
     println!("and on each month below, where every call is accepted.");
     println!();
 }

@@ -1,8 +1,9 @@
-// The calls open, activate, deactivate, status, assign, show and settle. The state goes in by value and comes back.
+// The calls open, activate, deactivate, status, assign, show, close and issue. The state goes in by value and comes back.
 pub mod activate;
 pub mod assign;
+pub mod close;
 pub mod deactivate;
+pub mod issue;
 pub mod open;
-pub mod settle;
 pub mod show;
 pub mod status;

@@ -10,21 +10,22 @@ use Rattle.quantity.specs.Lists.{fold}
 use Rattle.quantity.proofs.Tests.{and-left, or-left, or-right}
 use Rattle.state.specs.Valid.{openingOk, validDesk}
 use Rattle.state.specs.declared.Desk.{Desk}
+use Rattle.state.specs.declared.Effect.{Effect}
 use Rattle.state.specs.declared.Opening.{Opening}
 use Rattle.state.specs.Effect.{changedBy, unchangedIn, Fits}
-use Rattle.model.specs.Call.{Call, Stores, Told, Lengths, theBook, theSchedules, bookAndSchedules, told}
+use Rattle.model.specs.Call.{Call, Stores, Told, Lengths, theBook, theSchedules, bookAndSchedules, lengthsOf, told, telling}
 use Rattle.model.specs.Causes.{Rule, terms, rule, rules, orIf, orRule, firstOf, otherLengths, opensOk}
-use Rattle.model.specs.Step.{answering, refusalBy, granting, decided, step}
+use Rattle.model.specs.Step.{answering, accept, refusalBy, granting, decided, step}
 use Rattle.model.specs.View.{viewOf}
 use Rattle.model.specs.declared.Answer.{Answer}
-use Rattle.model.specs.declared.Answer.the-variants.{Refused}
+use Rattle.model.specs.declared.Answer.the-variants.{Accepted, Refused}
 use Rattle.model.specs.declared.Cause.{Cause}
 use Rattle.model.specs.declared.Cause.the-variants.{NotOpen}
 use Rattle.model.specs.declared.Ruling.{Ruling}
 use Rattle.model.specs.declared.Ruling.the-variants.{Fine, Refuse}
 use Rattle.checks.specs.Lent.{sizes}
 use Rattle.checks.specs.declared.Decided.{Decided}
-use Rattle.checks.specs.Stepped.{IsAnswer, IsBookStep, IsStep, IsScheduleStep, IsReport, IsWholeStep, lent}
+use Rattle.checks.specs.Stepped.{IsAnswer, IsBookStep, IsStep, IsScheduleStep, IsReport, IsWholeStep, Answered, lent}
 use Rattle.model.specs.Laws.{Passed}
 use Rattle.model.proofs.Invariant.{book-is, schedules-is}
 use Rattle.model.proofs.Rules.{passed}
@@ -171,3 +172,13 @@ module _ (d : Desk) (c : Call) (s : Stores) {v : Ruling} (e : v ≡ refusalBy d 
 
   pub whole-granted : {a : Answer} {n : Desk} {u : Stores} → v ≡ Fine → IsWholeStep (granting d s c) a n u → IsWholeStep (step d (lent c s)) a n u
   whole-granted h g = rw (granted h) g
+
+-- what is decided of a call that takes no store, by a ruling that says what the table says
+module _ (d : Desk) (c : Call) {v : Ruling} (e : (n : Lengths) → v ≡ refusalBy d (telling n c)) {r : Decided} where
+  pub decides-refused : {x : Cause} → v ≡ Refuse x → (r .answer ≡ Refused x) × (r .effect ≡ unchangedIn (d .frame))
+      → Fits d (r .effect) × Answered d c (r .answer) (changedBy d (r .effect))
+  decides-refused h z = let u = unmoved d z in (u .0, λ s. answer-refused d c s (e (lengthsOf s)) h (u .1))
+
+  pub decides-granted : {f : Effect} {n : Desk} → v ≡ Fine → (r .answer ≡ Accepted) × (r .effect ≡ f) → Fits d f × (changedBy d f ≡ n) → ((s : Stores) → granting d s c ≡ accept n s)
+      → Fits d (r .effect) × Answered d c (r .answer) (changedBy d (r .effect))
+  decides-granted h a p g = (rw (a .1) (p .0), λ s. answer-granted d c s (e (lengthsOf s)) h (rw (g s) (record { answered = a .0; held = rw (a .1) (p .1) })))

@@ -6,7 +6,7 @@ use mathlib.Core.List.{List}
 use lib.ListN.{length}
 use Rattle.state.specs.Desk.{openDesk}
 use Rattle.state.specs.declared.Desk.{Desk}
-use Rattle.model.specs.Call.{Call, opens, activates, deactivates, submits, notices, assigns, shows, asks, settles, lodges, reports, Taken, everyStore, allButSchedules, theBook, theSchedules, noStore, Stores, Lengths, lengthsOf, told, telling}
+use Rattle.model.specs.Call.{Call, opens, activates, deactivates, submits, notices, assigns, shows, asks, closes, issues, lodges, reports, Taken, everyStore, allButSchedules, theBook, theSchedules, noStore, Stores, Lengths, lengthsOf, told, telling}
 use Rattle.model.specs.Causes.{takes, otherLengths, openingBy}
 use Rattle.model.specs.Step.{withBook, withSchedules, step, granting, decided, refusalBy}
 use Rattle.model.specs.declared.Answer.{Answer}
@@ -28,7 +28,8 @@ module _ (f : Stores → List ℕ) (t : Taken → Bool) (full : t everyStore ≡
   granted-keeps d s (assigns a g day) e = (refl, beside e s _)
   granted-keeps d s (shows r g) e = (refl, refl)
   granted-keeps d s (asks p x) e = (refl, refl)
-  granted-keeps d s (settles r day) e = (refl, refl)
+  granted-keeps d s (closes r day) e = (refl, refl)
+  granted-keeps d s (issues r day) e = (refl, refl)
   granted-keeps d s (lodges g day es) e = (refl, behind e s _)
   granted-keeps d s (reports r g) e = (refl, refl)
 
@@ -125,7 +126,8 @@ module _ (d : Desk) (s u : Stores) where
   same-refusal (assigns a g day) x = ap (λ (l : List ℕ). refusalBy d (told (lent (assigns a g day) (withBook s l)))) (x .book refl)
   same-refusal (shows r g) x = ap (λ (l : List ℕ). refusalBy d (told (lent (shows r g) (withBook s l)))) (x .book refl)
   same-refusal (asks p v) _ = refl
-  same-refusal (settles r day) _ = refl
+  same-refusal (closes r day) _ = refl
+  same-refusal (issues r day) _ = refl
   same-refusal (lodges g day es) x = ap (λ (l : List ℕ). refusalBy d (told (lent (lodges g day es) (withSchedules s l)))) (x .schedules refl)
   same-refusal (reports r g) x = λ i. refusalBy d (told (lent (reports r g) (withSchedules (withBook s (x .book refl i)) (x .schedules refl i))))
 
@@ -138,7 +140,8 @@ module _ (d : Desk) (s u : Stores) where
   same-granted (assigns a g day) _ = (refl, refl)
   same-granted (shows r g) _ = (refl, refl)
   same-granted (asks p v) _ = (refl, refl)
-  same-granted (settles r day) _ = (refl, refl)
+  same-granted (closes r day) _ = (refl, refl)
+  same-granted (issues r day) _ = (refl, refl)
   same-granted (lodges g day es) _ = (refl, refl)
   same-granted (reports r g) _ = (refl, refl)
 

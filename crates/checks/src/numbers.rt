@@ -30,9 +30,11 @@ pub fn cause_number(cause: Cause) -> u64
         Cause::NotCheckData => 25,
         Cause::NoRow => 16,
         Cause::NoLogRow => 17,
-        Cause::SettleTooEarly => 27,
-        Cause::AlreadySettled => 28,
+        Cause::CloseTooEarly => 27,
+        Cause::AlreadyClosed => 28,
         Cause::FirstRunOpen => 29,
+        Cause::NotClosed => 38,
+        Cause::AlreadyIssued => 39,
     }
 }
 

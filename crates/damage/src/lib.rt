@@ -43,21 +43,16 @@ fn with_opening(o: Opening, which: u64, a: u64) -> Opening {
     }
 }
 
-// A flag.
-fn with_flag(r: Runs, which: u64, flag: bool) -> Runs {
-    if which == 12 {
-        return Runs {
-            first: flag,
-            second: r.second,
-        };
+fn one_flag(first: bool, a: bool, b: bool) -> bool {
+    if first { a } else { b }
+}
+
+// A flag: run 1's where the first is meant, run 2's where the second is.
+fn with_flags(r: Runs, first: bool, second: bool, flag: bool) -> Runs {
+    Runs {
+        first: one_flag(first, flag, r.first),
+        second: one_flag(second, flag, r.second),
     }
-    if which == 13 {
-        return Runs {
-            first: r.first,
-            second: flag,
-        };
-    }
-    r
 }
 
 // A delta group.
@@ -79,14 +74,16 @@ fn with_group(
 fn with_frame(f: Frame, which: u64, place: u64, a: u64) -> Frame {
     let opening = f.opening;
     let groups = f.groups;
-    let settled = f.settled;
+    let closed = f.closed;
+    let issued = f.issued;
     Frame {
         opening: with_opening(opening, which, a),
         day: Day(one_of(which == 8, a, f.day.0)),
         groups: with_group(groups, which, place, a),
         count: one_of(which == 10, a, f.count),
         used: one_of(which == 11, a, f.used),
-        settled: with_flag(settled, which, a != 0),
+        closed: with_flags(closed, which == 12, which == 13, a != 0),
+        issued: with_flags(issued, which == 18, which == 19, a != 0),
     }
 }
 

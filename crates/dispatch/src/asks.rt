@@ -49,7 +49,8 @@ pub fn asks_of(call: DeskCall) -> Asks
             group: _,
             day: _,
         } => asking_nothing(),
-        DeskCall::Settle { run: _, day: _ } => asking_nothing(),
+        DeskCall::Close { run: _, day: _ } => asking_nothing(),
+        DeskCall::Issue { run: _, day: _ } => asking_nothing(),
     }
 }
 
@@ -97,6 +98,7 @@ pub fn quarters_of(call: DeskCall, q: u64) -> u64
             group: _,
             day: _,
         } => q,
-        DeskCall::Settle { run: _, day: _ } => q,
+        DeskCall::Close { run: _, day: _ } => q,
+        DeskCall::Issue { run: _, day: _ } => q,
     }
 }

@@ -2,9 +2,10 @@
 use crate::asks::asks_of;
 use calls::activate::decide_activate;
 use calls::assign::decide_assign;
+use calls::close::decide_close;
 use calls::deactivate::decide_deactivate;
+use calls::issue::decide_issue;
 use calls::open::decide_open;
-use calls::settle::decide_settle;
 use checks::Decided;
 use checks::Look;
 use checks::Outcome;
@@ -41,22 +42,11 @@ pub fn decide(
 {
     match call {
         DeskCall::Open {
-            quarters,
+            quarters: q,
             first,
-            clearing,
-            correction,
-        } => decide_open(
-            f,
-            quarters,
-            first,
-            clearing,
-            correction,
-            groups,
-            values,
-            book,
-            log,
-            schedules,
-        ),
+            clearing: c,
+            correction: k,
+        } => decide_open(f, q, first, c, k, groups, values, book, log, schedules),
         DeskCall::Activate {
             point,
             kind,
@@ -77,7 +67,8 @@ pub fn decide(
             day,
         } => decide_notice(f, l, point, version, verdict, day, values, book, log),
         DeskCall::Assign { area, group, day } => decide_assign(f, l, area, group, day, book),
-        DeskCall::Settle { run, day } => decide_settle(f, l, run, day),
+        DeskCall::Close { run, day } => decide_close(f, l, run, day),
+        DeskCall::Issue { run, day } => decide_issue(f, l, run, day),
     }
 }
 

@@ -1,4 +1,4 @@
--- A run of the eleven calls of the code is the run that demand 3 speaks of. Assumes nothing.
+-- A run of the twelve calls of the code is the run that demand 3 speaks of. Assumes nothing.
 use Prim.Native.Nat.{ℕ}
 use mathlib.Core.Path.{_≡_, refl, sym, ap, _∙_, subst}
 use mathlib.Core.Bool.{Bool, true, false, false≢true}
@@ -6,7 +6,7 @@ use mathlib.Core.List.{List, [], _∷_, map}
 use lib.IntN.{ℤ}
 use Rattle.quantity.specs.Word.{signed}
 use Rattle.message.specs.declared.DeskCall.{DeskCall}
-use Rattle.message.specs.declared.DeskCall.the-variants.{Open, Activate, Deactivate, Submit, Notice, Assign, Settle}
+use Rattle.message.specs.declared.DeskCall.the-variants.{Open, Activate, Deactivate, Submit, Notice, Assign, Close, Issue}
 use Rattle.state.specs.Desk.{freshDesk}
 use Rattle.state.specs.declared.Desk.{Desk}
 use Rattle.state.specs.declared.Opening.{Opening}
@@ -52,7 +52,8 @@ asked-bare d s (Deactivate p day) gs es = refl
 asked-bare d s (Submit p x day) gs es = refl
 asked-bare d s (Notice p x y day) gs es = refl
 asked-bare d s (Assign a g day) gs es = refl
-asked-bare d s (Settle r day) gs es = refl
+asked-bare d s (Close r day) gs es = refl
+asked-bare d s (Issue r day) gs es = refl
 
 -- the desk and the stores stay as they are
 record Kept (d : Desk) (s : Stores) (o : Outcome) : Type 0 where
@@ -145,7 +146,7 @@ unfolding Run end endOf
 ends r [] R = refl
 ends r (e ∷ es) R = ap (λ (x : Running). end x (map lentOf es)) (entry-next r e (R .0)) ∙ ends (leftBy r e) es (R .2)
 
--- demand 3 for the code: in every run of its eleven calls, on a fresh desk and whatever the stores hold, the answers that they gave, show's row
+-- demand 3 for the code: in every run of its twelve calls, on a fresh desk and whatever the stores hold, the answers that they gave, show's row
 -- and a report's sums included, agree with the plain desk, and so does the desk as the last one left it, with the stores of its opening
 pub entries-agree : (s : Stores) (es : List Entered) → Run (fresh s) es
     → Agree (map replyIn es) (endOf (fresh s) es) (plainReplies [] (map told (map lentOf es))) (plainEnd [] (map told (map lentOf es)))

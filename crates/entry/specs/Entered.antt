@@ -1,4 +1,4 @@
--- A run of the eleven calls of the code: what each entry was called with, and what it gave and left.
+-- A run of the twelve calls of the code: what each entry was called with, and what it gave and left.
 use Prim.Native.Nat.{ℕ}
 use mathlib.Core.Path.{_≡_}
 use mathlib.Core.List.{List, [], _∷_, map}

@@ -46,6 +46,7 @@ by-fields =
     (four 5 0 (λ a b c d. none-left (λ (l : List ℕ). Back 5 (a ∷ b ∷ c ∷ d ∷ l)) (back 5 (a ∷ b ∷ c ∷ d ∷ []) _ refl (refl, refl))))
     (two 6 1 (λ a b. one-more (λ (l : List ℕ). Back 6 (a ∷ b ∷ l)) 0 (λ c. none-left (λ (l : List ℕ). Back 6 (a ∷ b ∷ c ∷ l)) (back 6 (a ∷ b ∷ c ∷ []) _ refl (refl, refl)))))
     (two 7 0 (λ a b. none-left (λ (l : List ℕ). Back 7 (a ∷ b ∷ l)) (back 7 (a ∷ b ∷ []) _ refl (refl, refl))))
+    (two 8 0 (λ a b. none-left (λ (l : List ℕ). Back 8 (a ∷ b ∷ l)) (back 8 (a ∷ b ∷ []) _ refl (refl, refl))))
   where
     two : (k n : ℕ) → ((a b : ℕ) (l : List ℕ) → length l ≡ n → Back k (a ∷ b ∷ l)) → (fields : List ℕ) → length fields ≡ n + 1 + 1 → Back k fields
     two k n f = one-more (Back k) (n + 1) (λ a. one-more (λ (l : List ℕ). Back k (a ∷ l)) n (f a))

@@ -73,7 +73,7 @@ module _ (file : List ℕ) (s : Stores) (buffer output : List ℕ) where
     pub summarised : (p q : Places) {b : Bool} {number offset : ℕ} {refused : Refusals} → b ≡ fitting p → b ≡ true
         → offset ≡ endingOffset (length file) (r .ending)
         → (refused .count ≡ refusals (take (r .answered) output′)) × (refused .first ≡ firstRefused 1 (take (r .answered) output′))
-        → q .summary ≡ over (listed (r .answered) offset (r .desk .frame .opening .quarters) (r .desk .frame .used) (r .desk .frame .count) (refused .count) (refused .first) (r .desk .frame .day .0) (r .desk .frame .settled)) (p .summary)
+        → q .summary ≡ over (listed (r .answered) offset (r .desk .frame .opening .quarters) (r .desk .frame .used) (r .desk .frame .count) (refused .count) (refused .first) (r .desk .frame .day .0) (r .desk .frame .closed) (r .desk .frame .issued)) (p .summary)
         → q .points ≡ over (pointTable (r .desk .points) (take (r .desk .frame .count) (r .desk .versions))) (p .points)
         → q .versions ≡ over (versionTable (take (r .desk .frame .count) (r .desk .versions))) (p .versions)
         → number ≡ endingNumber (r .ending) → Summarised file s buffer output p number after buffer′ output′ q
@@ -84,14 +84,15 @@ module _ (file : List ℕ) (s : Stores) (buffer output : List ℕ) where
         let used = ap (λ (v : View). v .frame .used) held in
         let count = ap (λ (v : View). v .frame .count) held in
         let day = ap (λ (v : View). v .frame .day .0) held in
-        let settled = ap (λ (v : View). v .frame .settled) held in
+        let closed = ap (λ (v : View). v .frame .closed) held in
+        let issued = ap (λ (v : View). v .frame .issued) held in
         let ps = ap (λ (v : View). v .points) held in
         let vs = ap (λ (v : View). v .versions) held in
         record {
           short = λ g. absurd (true≢false (sym t ∙ e ∙ g));
           runs = λ _. record {
             answer = n ∙ ap endingNumber (R .ending);
-            summary = summary ∙ rw (o, f .0, f .1, answered-are, R .answered, R .ending, quarters, used, count, day, settled);
+            summary = summary ∙ rw (o, f .0, f .1, answered-are, R .answered, R .ending, quarters, used, count, day, closed, issued);
             points = points ∙ rw (ps, vs);
             versions = versions ∙ rw vs;
             gives = R .gives;

@@ -3,9 +3,9 @@ use Prim.Native.Nat.{ℕ, _+_}
 use mathlib.Core.List.{List, [], _∷_, _++_}
 use lib.ListN.{drop, replicate}
 use Rattle.message.specs.Cause.{causeNumber}
-use Rattle.message.specs.Call.{Sent, opening, activation, deactivation, submission, noticing, assignment, settlement, mostFields}
+use Rattle.message.specs.Call.{Sent, opening, activation, deactivation, submission, noticing, assignment, closing, issuing, mostFields}
 use Rattle.message.specs.declared.DeskCall.{DeskCall}
-use Rattle.message.specs.declared.DeskCall.the-variants.{Open, Activate, Deactivate, Submit, Notice, Assign, Settle}
+use Rattle.message.specs.declared.DeskCall.the-variants.{Open, Activate, Deactivate, Submit, Notice, Assign, Close, Issue}
 use Rattle.reader.specs.declared.Reading.{Reading}
 use Rattle.reader.specs.declared.Step.{Step}
 use Rattle.reader.specs.declared.Step.the-variants.{Call, End, Refused}
@@ -26,7 +26,8 @@ kindOf (Deactivate p d) = deactivation
 kindOf (Submit p v d) = submission
 kindOf (Notice p v x d) = noticing
 kindOf (Assign a g d) = assignment
-kindOf (Settle r d) = settlement
+kindOf (Close r d) = closing
+kindOf (Issue r d) = issuing
 
 -- a call's first four numbers, 0 where it has fewer; what comes behind them stands beside the call
 abbrev pub headOf : DeskCall → List ℕ
@@ -36,7 +37,8 @@ headOf (Deactivate p d) = p .0 ∷ d .0 ∷ 0 ∷ 0 ∷ []
 headOf (Submit p v d) = p .0 ∷ v .0 ∷ d .0 ∷ 0 ∷ []
 headOf (Notice p v x d) = p .0 ∷ v .0 ∷ x ∷ d .0 ∷ []
 headOf (Assign a g d) = a ∷ g ∷ d .0 ∷ 0 ∷ []
-headOf (Settle r d) = r ∷ d .0 ∷ 0 ∷ 0 ∷ []
+headOf (Close r d) = r ∷ d .0 ∷ 0 ∷ 0 ∷ []
+headOf (Issue r d) = r ∷ d .0 ∷ 0 ∷ 0 ∷ []
 
 -- 0 for a call, 1 where no call follows, else the refusal's number
 abbrev pub readAnswer : Step → ℕ

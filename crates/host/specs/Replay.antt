@@ -11,7 +11,7 @@ use Rattle.message.specs.Cause.{causeNumber}
 use Rattle.message.specs.File.{callsIn}
 use Rattle.message.specs.declared.FileCause.the-variants.{NoRoom}
 use Rattle.model.specs.Call.{Stores, Told}
-use Rattle.model.specs.Plain.{openingOf, dayOf, pointsOf, versionsOf, logOf, settledOf, plainReplies, plainEnd}
+use Rattle.model.specs.Plain.{openingOf, dayOf, pointsOf, versionsOf, logOf, closedOf, issuedOf, plainReplies, plainEnd}
 use Rattle.replay.specs.Replay.{callsFor, endingOf, toldOf, numbersOf, over, Gives}
 use Rattle.replay.specs.declared.Ending.{Ending}
 use Rattle.replay.specs.declared.Ending.the-variants.{End, Refused, Full}
@@ -41,7 +41,7 @@ placesOf r p v = record { summary = r; points = p; versions = v }
 
 -- how many numbers a summary has
 abbrev pub summaryPlaces : ℕ
-summaryPlaces = 10
+summaryPlaces = 12
 
 -- whether there are places enough: for a summary, for every point and for every version that a desk can hold
 abbrev pub fits : (summary points versions : ℕ) → Bool
@@ -52,15 +52,15 @@ abbrev pub fitting : Places → Bool
 fitting p = fits (length (p .summary)) (length (p .points)) (length (p .versions))
 
 -- how many calls are answered, the offset, Q (0: not open), log rows used, versions held, how many calls are refused, which is the first, the
--- desk's day, whether run 1 is settled and whether run 2 is
-abbrev pub listed : (answered offset quarters used held refused first day : ℕ) → Runs → List ℕ
-listed answered offset quarters used held refused first day settled =
-    answered ∷ offset ∷ quarters ∷ used ∷ held ∷ refused ∷ first ∷ day ∷ flagNumber (settled .first) ∷ flagNumber (settled .second) ∷ []
+-- desk's day, whether run 1 is closed and whether run 2 is, whether run 1 is issued and whether run 2 is
+abbrev pub listed : (answered offset quarters used held refused first day : ℕ) (closed issued : Runs) → List ℕ
+listed answered offset quarters used held refused first day closed issued =
+    answered ∷ offset ∷ quarters ∷ used ∷ held ∷ refused ∷ first ∷ day ∷ flagNumber (closed .first) ∷ flagNumber (closed .second) ∷ flagNumber (issued .first) ∷ flagNumber (issued .second) ∷ []
 
 -- the summary on a file of so many bytes, with the plain desk's answers and its list
 abbrev pub summaryOf : (length answered : ℕ) → Ending → (answers : List ℕ) → List Told → List ℕ
 summaryOf n answered e answers h =
-    listed answered (endingOffset n e) (openingOf h .quarters) (length (logOf h)) (length (versionsOf h)) (refusals answers) (firstRefused 1 answers) (dayOf h) (settledOf h)
+    listed answered (endingOffset n e) (openingOf h .quarters) (length (logOf h)) (length (versionsOf h)) (refusals answers) (firstRefused 1 answers) (dayOf h) (closedOf h) (issuedOf h)
 
 -- a file that is run
 pub record Ran (file : List ℕ) (cs : List Given) (e : Ending) (s : Stores) (buffer output : List ℕ) (p : Places) (number : ℕ) (after : Stores) (buffer′ output′ : List ℕ) (p′ : Places) : Type 0 where

@@ -3,11 +3,12 @@ use message::DeskCall;
 use message::call::ACTIVATION;
 use message::call::ASSIGNMENT;
 use message::call::BEFORE_GROUPS;
+use message::call::CLOSING;
 use message::call::DEACTIVATION;
+use message::call::ISSUING;
 use message::call::MOST_FIELDS;
 use message::call::NOTICE;
 use message::call::OPENING;
-use message::call::SETTLEMENT;
 use message::call::SUBMISSION;
 use quantity::limits::DELTAS;
 ghost use mathlib.Core.Path.{_≡_};
@@ -51,7 +52,8 @@ pub fn kind_of(call: DeskCall) -> u64
             group: _,
             day: _,
         } => ASSIGNMENT,
-        DeskCall::Settle { run: _, day: _ } => SETTLEMENT,
+        DeskCall::Close { run: _, day: _ } => CLOSING,
+        DeskCall::Issue { run: _, day: _ } => ISSUING,
     }
 }
 
@@ -86,7 +88,8 @@ fn head_of(call: DeskCall) -> [u64; BEFORE_GROUPS]
             day,
         } => [point.0, version.0, verdict, day.0],
         DeskCall::Assign { area, group, day } => [area, group, day.0, 0],
-        DeskCall::Settle { run, day } => [run, day.0, 0, 0],
+        DeskCall::Close { run, day } => [run, day.0, 0, 0],
+        DeskCall::Issue { run, day } => [run, day.0, 0, 0],
     }
 }
 

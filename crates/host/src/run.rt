@@ -20,7 +20,7 @@ ghost use Rattle.host.specs.Replay.{endingNumber, endingOffset, summaryP
 ghost use Rattle.summary.specs.Table.{flagNumber};
 
 // How many numbers a summary has.
-const SUMMARY_PLACES: usize = 10;
+const SUMMARY_PLACES: usize = 12;
 
 fn number_of(ending: Ending) -> u64
     ensures { λ r. ⌜ r ≡ endingNumber ending ⌝ }
@@ -55,7 +55,7 @@ fn all_fit(summary: usize, points: usize, versions: usize) -> bool
     (SUMMARY_PLACES <= summary) & ((POINT_PLACES <= points) & (VERSION_PLACES <= versions))
 }
 
-// The ten places of a summary.
+// The twelve places of a summary.
 fn put_summary(
     summary: &mut [u64],
     answered: u64,
@@ -65,13 +65,16 @@ fn put_summary(
     held: u64,
     refused: Refusals,
     day: Day,
-    settled: Runs,
+    closed: Runs,
+    issued: Runs,
 )
     requires { ⌜ summaryPlaces ≤ length (now summary) ⌝ }
-    ensures { λ _. ⌜ now (summary .exit) ≡ over (listed answered offset quarters used held (refused .count) (refused .first) (day .0) settled) (now (summary .entry)) ⌝ }
+    ensures { λ _. ⌜ now (summary .exit) ≡ over (listed answered offset quarters used held (refused .count) (refused .first) (day .0) closed issued) (now (summary .entry)) ⌝ }
 {
-    let first = flag_number(settled.first);
-    let second = flag_number(settled.second);
+    let closed_first = flag_number(closed.first);
+    let closed_second = flag_number(closed.second);
+    let issued_first = flag_number(issued.first);
+    let issued_second = flag_number(issued.second);
     let numbers = [
         answered,
         offset,
@@ -81,15 +84,17 @@ fn put_summary(
         refused.count,
         refused.first,
         day.0,
-        first,
-        second,
+        closed_first,
+        closed_second,
+        issued_first,
+        issued_second,
     ];
     put_row(summary, 0, &numbers);
 }
 
 // 0, or the number of the first refusal; 35 where the answers are full; 2, and nothing is done, where a summary, the points or the versions have fewer
-// places than ten, 2,304 and 2,048. The summary tells the calls answered, the offset, Q, the log rows used, the versions held, the calls
-// refused and the first of them, the day, and which runs are settled.
+// places than twelve, 2,304 and 2,048. The summary tells the calls answered, the offset, Q, the log rows used, the versions held, the calls
+// refused and the first of them, the day, which runs are closed and which are issued.
 #[no_mangle]
 pub extern "C" fn emorizugu_replay(
     file: &[u8],
@@ -116,7 +121,8 @@ pub extern "C" fn emorizugu_replay(
     let offset = offset_of(file.len() as u64, ending);
     let refused = refusals_of(answers, run.answered);
     let day = f.day;
-    let settled = f.settled;
+    let closed = f.closed;
+    let issued = f.issued;
     put_summary(
         summary,
         run.answered as u64,
@@ -126,7 +132,8 @@ pub extern "C" fn emorizugu_replay(
         f.count,
         refused,
         day,
-        settled,
+        closed,
+        issued,
     );
     let table = desk.points;
     let held = desk.versions;

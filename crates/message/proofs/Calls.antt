@@ -24,19 +24,19 @@ use Rattle.message.proofs.Energies.{series-back, series-forth, series-f
 -- each kind has two fields or more, and none more than an opening
 pub fields-some : (k : ℕ) → isKind k ≡ true → 2 ≤ fieldsOf k
 fields-some =
-    each-kind (λ (k : ℕ). 2 ≤ fieldsOf k) (omega arith) (omega arith) (omega arith) (omega arith) (omega arith) (omega arith) (omega arith)
+    each-kind (λ (k : ℕ). 2 ≤ fieldsOf k) (omega arith) (omega arith) (omega arith) (omega arith) (omega arith) (omega arith) (omega arith) (omega arith)
 
 pub fields-none : (k : ℕ) → kinds < k → 0 ≡ fieldsOf k
 fields-none k h = sym (List·getD-eq-default fieldCounts 0 {n = k} h)
 
-pub fields-other : (k : ℕ) → (k ≡ 1 → ⊥) → (k ≡ 2 → ⊥) → (k ≡ 3 → ⊥) → (k ≡ 4 → ⊥) → (k ≡ 5 → ⊥) → (k ≡ 6 → ⊥) → (k ≡ 7 → ⊥) → 0 ≡ fieldsOf k
+pub fields-other : (k : ℕ) → (k ≡ 1 → ⊥) → (k ≡ 2 → ⊥) → (k ≡ 3 → ⊥) → (k ≡ 4 → ⊥) → (k ≡ 5 → ⊥) → (k ≡ 6 → ⊥) → (k ≡ 7 → ⊥) → (k ≡ 8 → ⊥) → 0 ≡ fieldsOf k
 fields-other =
-    by-kind (λ (k : ℕ). (k ≡ 1 → ⊥) → (k ≡ 2 → ⊥) → (k ≡ 3 → ⊥) → (k ≡ 4 → ⊥) → (k ≡ 5 → ⊥) → (k ≡ 6 → ⊥) → (k ≡ 7 → ⊥) → 0 ≡ fieldsOf k) (λ a b c d e f g. refl) (λ a b c d e f g. absurd (a refl)) (λ a b c d e f g. absurd (b refl)) (λ a b c d e f g. absurd (c refl)) (λ a b c d e f g. absurd (d refl)) (λ a b c d e f g. absurd (e refl)) (λ a b c d e f g. absurd (f refl)) (λ a b c d e f g. absurd (g refl))
-    (λ k h a b c d e f g. fields-none k h)
+    by-kind (λ (k : ℕ). (k ≡ 1 → ⊥) → (k ≡ 2 → ⊥) → (k ≡ 3 → ⊥) → (k ≡ 4 → ⊥) → (k ≡ 5 → ⊥) → (k ≡ 6 → ⊥) → (k ≡ 7 → ⊥) → (k ≡ 8 → ⊥) → 0 ≡ fieldsOf k) (λ a b c d e f g h. refl) (λ a b c d e f g h. absurd (a refl)) (λ a b c d e f g h. absurd (b refl)) (λ a b c d e f g h. absurd (c refl)) (λ a b c d e f g h. absurd (d refl)) (λ a b c d e f g h. absurd (e refl)) (λ a b c d e f g h. absurd (f refl)) (λ a b c d e f g h. absurd (g refl)) (λ a b c d e f g h. absurd (h refl))
+    (λ k n a b c d e f g h. fields-none k n)
 
 pub fields-few : (k : ℕ) → fieldsOf k ≤ mostFields
 fields-few =
-    by-kind (λ (k : ℕ). fieldsOf k ≤ mostFields) (omega arith) (omega arith) (omega arith) (omega arith) (omega arith) (omega arith) (omega arith) (omega arith)
+    by-kind (λ (k : ℕ). fieldsOf k ≤ mostFields) (omega arith) (omega arith) (omega arith) (omega arith) (omega arith) (omega arith) (omega arith) (omega arith) (omega arith)
     (λ k h. omega (arith, fields-none k h))
 
 -- what was written is read

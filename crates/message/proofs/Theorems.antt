@@ -121,8 +121,8 @@ pub record CauseNumbers : Type 0 where
   pub cut : (refusalOf (verdictOf (7 ∷ [])) ≡ 31) × (refusalOf (verdictOf (4 ∷ 1 ∷ 7 ∷ 2 ∷ 164 ∷ 23 ∷ [])) ≡ 31)
   -- "file number not shortest" (P12), "or its ninth byte has the top bit set"
   pub form : refusalOf (verdictOf (replicate 9 128)) ≡ 32
-  -- "call kind not 1..7"
-  pub kind : (refusalOf (verdictOf (0 ∷ [])) ≡ 33) × (refusalOf (verdictOf (8 ∷ [])) ≡ 33)
+  -- "call kind not 1..7"; document 02: "byte 8 no longer meets 33", so that a file of an issue alone is whole
+  pub kind : (refusalOf (verdictOf (0 ∷ [])) ≡ 33) × (refusalOf (verdictOf (9 ∷ [])) ≡ 33) × (refusalOf (verdictOf (8 ∷ 1 ∷ 2 ∷ [])) ≡ 0)
   -- "series count above 2,980"
   pub count : refusalOf (verdictOf (4 ∷ 1 ∷ 7 ∷ 2 ∷ 165 ∷ 23 ∷ [])) ≡ 34
   -- "reader: series count above the length of the lent series buffer"
@@ -131,7 +131,7 @@ pub record CauseNumbers : Type 0 where
 pub cause-numbers : CauseNumbers
 unfolding callsWithin decodeIn numbersIn
 cause-numbers =
-    record { cut = (refl, refl); form = refl; kind = (refl, refl); count = refl; room = λ x e. let y : NoRoom ≡ x = cc in ap causeNumber (sym y) }
+    record { cut = (refl, refl); form = refl; kind = (refl, refl, refl); count = refl; room = λ x e. let y : NoRoom ≡ x = cc in ap causeNumber (sym y) }
 
 -- "An energy v is sent as 2v if v ≥ 0, else -2v-1.": of -n-1 it is 2(n+1)-1
 pub sent-number : (n : ℕ) → (sent (pos n) ≡ 2 * n) × (sent (negsuc n) ≡ 2 * (n + 1) - 1)

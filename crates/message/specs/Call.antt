@@ -43,22 +43,26 @@ noticing = 5
 abbrev pub assignment : ℕ
 assignment = 6
 
--- "7 settle"
-abbrev pub settlement : ℕ
-settlement = 7
+-- "7 settle"; document 02: "kind 7 is close", "an older file's settle is read as close"
+abbrev pub closing : ℕ
+closing = 7
+
+-- document 02: "kind 8 issue"
+abbrev pub issuing : ℕ
+issuing = 8
 
 -- the kinds are 1 to this one
 abbrev pub kinds : ℕ
-kinds = settlement
+kinds = issuing
 
 -- an opening's fields before its delta groups: "Q, F, C, K"
 abbrev pub beforeGroups : ℕ
 beforeGroups = 4
 
 -- how many fields each kind has, from kind 0 on: "Q, F, C, K, 17 delta groups", "point, kind, area, partner, day", "point, day",
--- "point, version, day", "point, version, verdict, day", "area, group, day", "run, day"
+-- "point, version, day", "point, version, verdict, day", "area, group, day", "run, day"; document 02 of close and issue: "both with run and day"
 abbrev pub fieldCounts : List ℕ
-fieldCounts = 0 ∷ (beforeGroups + deltas) ∷ 5 ∷ 2 ∷ 3 ∷ 4 ∷ 3 ∷ 2 ∷ []
+fieldCounts = 0 ∷ (beforeGroups + deltas) ∷ 5 ∷ 2 ∷ 3 ∷ 4 ∷ 3 ∷ 2 ∷ 2 ∷ []
 
 -- how many fields a kind has
 abbrev pub fieldsOf : (kind : ℕ) → ℕ
@@ -68,7 +72,7 @@ fieldsOf k = getD fieldCounts k 0
 abbrev pub mostFields : ℕ
 mostFields = fieldsOf opening
 
--- "call kind not 1..7"
+-- "call kind not 1..7"; document 02: "byte 8 no longer meets 33": 1 to 8
 abbrev pub isKind : ℕ → Bool
 isKind k = within 1 kinds k
 

@@ -26,10 +26,12 @@ pub const NOTICE: u64 = 5;
 
 pub const ASSIGNMENT: u64 = 6;
 
-pub const SETTLEMENT: u64 = 7;
+pub const CLOSING: u64 = 7;
+
+pub const ISSUING: u64 = 8;
 
 // The kinds are 1 to this one.
-pub const KINDS: u64 = SETTLEMENT;
+pub const KINDS: u64 = ISSUING;
 
 // The fields of an opening before its delta groups: Q, F, C, K.
 pub const BEFORE_GROUPS: usize = 4;
@@ -65,7 +67,10 @@ pub fn fields_of(kind: u64) -> usize
     if kind == ASSIGNMENT {
         return 3;
     }
-    if kind == SETTLEMENT {
+    if kind == CLOSING {
+        return 2;
+    }
+    if kind == ISSUING {
         return 2;
     }
     0
@@ -96,18 +101,18 @@ pub fn call_of(kind: u64, fields: [u64; MOST_FIELDS]) -> Named
             day: Day(fields[4]),
         });
     }
-    later_call_of(kind, a, b, c, d)
-}
-
-fn later_call_of(kind: u64, a: u64, b: u64, c: u64, d: u64) -> Named
-    ensures { λ r. ⌜ r ≡ laterCallOf kind a b c d ⌝ }
-{
     if kind == DEACTIVATION {
         return Named::Known(DeskCall::Deactivate {
             point: PointNo(a),
             day: Day(b),
         });
     }
+    later_call_of(kind, a, b, c, d)
+}
+
+fn later_call_of(kind: u64, a: u64, b: u64, c: u64, d: u64) -> Named
+    ensures { λ r. ⌜ r ≡ laterCallOf kind a b c d ⌝ }
+{
     if kind == SUBMISSION {
         return Named::Known(DeskCall::Submit {
             point: PointNo(a),
@@ -130,8 +135,14 @@ fn later_call_of(kind: u64, a: u64, b: u64, c: u64, d: u64) -> Named
             day: Day(c),
         });
     }
-    if kind == SETTLEMENT {
-        return Named::Known(DeskCall::Settle {
+    if kind == CLOSING {
+        return Named::Known(DeskCall::Close {
+            run: a,
+            day: Day(b),
+        });
+    }
+    if kind == ISSUING {
+        return Named::Known(DeskCall::Issue {
             run: a,
             day: Day(b),
         });

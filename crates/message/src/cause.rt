@@ -9,7 +9,7 @@ pub const CUT: u64 = 31;
 // A number not shortest, or its ninth byte with the top bit set.
 pub const NOT_SHORTEST: u64 = 32;
 
-// A kind that is not 1 to 7.
+// A kind that is not 1 to 8.
 pub const BAD_KIND: u64 = 33;
 
 // A count, a field or an energy too large.

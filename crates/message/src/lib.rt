@@ -96,7 +96,11 @@ pub enum DeskCall {
         group: u64,
         day: Day,
     },
-    Settle {
+    Close {
+        run: u64,
+        day: Day,
+    },
+    Issue {
         run: u64,
         day: Day,
     },

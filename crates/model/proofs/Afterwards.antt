@@ -1,7 +1,6 @@
 -- What an accepted call makes of the desk, field by field, in the paper's words. Assumes nothing.
 use Prim.Native.Nat.{ℕ, suc}
 use mathlib.Core.Path.{_≡_, refl, ap}
-use mathlib.Core.Bool.{true}
 use mathlib.Core.List.{List, [], _∷_, _++_}
 use lib.IntN.{ℤ}
 use lib.ListN.{length, set, length-set, length-append, List·getD-append}
@@ -10,10 +9,11 @@ use Rattle.quantity.specs.Lists.{fold}
 use Rattle.state.specs.Point.{freePoint}
 use Rattle.state.specs.Version.{emptyVersion, newVersion, recordAt}
 use Rattle.state.specs.declared.PointState.the-variants.{Free, Active}
+use Rattle.state.specs.declared.Runs.{Runs}
 use Rattle.state.specs.declared.VersionRecord.{VersionRecord}
-use Rattle.state.proofs.Settled.{submitted-number}
-use Rattle.model.specs.Call.{Call, opens, activates, deactivates, submits, notices, assigns, shows, asks, settles, lodges, reports, Lengths, telling}
-use Rattle.model.specs.Laws.{Opens, Sets, Delivers, dayBy}
+use Rattle.state.proofs.Settled.{submitted-number, settles-first, settles-second}
+use Rattle.model.specs.Call.{Call, opens, activates, deactivates, submits, notices, assigns, shows, asks, closes, issues, lodges, reports, Lengths, telling}
+use Rattle.model.specs.Laws.{Opens, Sets, Delivers, Closes, Issues, dayBy}
 use Rattle.model.specs.Plain.{Worked, after}
 
 sets-one : {A : Type 0} (z : A) (l : List A) (i : ℕ) (x : A) → Sets z i x l (set l i x)
@@ -56,14 +56,23 @@ module _ (w : Worked) (n : Lengths) where
         earlier = λ j h. List·getD-append (w .energies) (es ∷ []) [] j h;
       }
 
-  -- settle's flag
-  pub settles-first : (d : ℕ) → (after (telling n (settles 1 d)) w .settled .first ≡ true) × (after (telling n (settles 1 d)) w .settled .second ≡ w .settled .second)
+  -- a close of each run
+  pub closes-first : (d : ℕ) → Closes (λ (r : Runs). r .first) (λ (r : Runs). r .second) w (after (telling n (closes 1 d)) w)
   unfolding after fold
-  settles-first d = (refl, refl)
+  closes-first d = record { closed = refl; apart = refl; issued = refl; versions = refl }
 
-  pub settles-second : (d : ℕ) → (after (telling n (settles 2 d)) w .settled .second ≡ true) × (after (telling n (settles 2 d)) w .settled .first ≡ w .settled .first)
+  pub closes-second : (d : ℕ) → Closes (λ (r : Runs). r .second) (λ (r : Runs). r .first) w (after (telling n (closes 2 d)) w)
   unfolding after fold
-  settles-second d = (refl, refl)
+  closes-second d = record { closed = refl; apart = refl; issued = refl; versions = refl }
+
+  -- and an issue: 2 and 3 become 3, 4 and 5 become 5
+  pub issues-first : (d : ℕ) → Issues (λ (r : Runs). r .first) (λ (r : Runs). r .second) 1 2 3 w (after (telling n (issues 1 d)) w)
+  unfolding after fold
+  issues-first d = record { issued = refl; apart = refl; closed = refl; settles = settles-first (w .versions) }
+
+  pub issues-second : (d : ℕ) → Issues (λ (r : Runs). r .second) (λ (r : Runs). r .first) 2 4 5 w (after (telling n (issues 2 d)) w)
+  unfolding after fold
+  issues-second d = record { issued = refl; apart = refl; closed = refl; settles = settles-second (w .versions) }
 
   pub day-set : (c : Call) → after (telling n c) w .day ≡ dayBy c (w .day)
   unfolding after fold
@@ -75,6 +84,7 @@ module _ (w : Worked) (n : Lengths) where
   day-set (assigns a g d) = refl
   day-set (shows r g) = refl
   day-set (asks p x) = refl
-  day-set (settles r d) = refl
+  day-set (closes r d) = refl
+  day-set (issues r d) = refl
   day-set (lodges g d es) = refl
   day-set (reports r g) = refl

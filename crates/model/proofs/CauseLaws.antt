@@ -9,7 +9,7 @@ use Rattle.state.specs.Version.{held}
 use Rattle.state.specs.declared.Desk.{Desk}
 use Rattle.state.specs.declared.Held.{Held}
 use Rattle.state.specs.declared.Held.the-variants.{Absent, Has}
-use Rattle.model.specs.Call.{Call, opens, activates, deactivates, submits, notices, assigns, shows, asks, settles, lodges, reports, Stores, lengthsOf, Lent, told}
+use Rattle.model.specs.Call.{Call, opens, activates, deactivates, submits, notices, assigns, shows, asks, closes, issues, lodges, reports, Stores, lengthsOf, Lent, told}
 use Rattle.model.specs.Causes.{rules, isAbsent}
 use Rattle.model.specs.Laws.{Passed, Decides}
 use Rattle.model.specs.Step.{lines, statusAnswer, granting, refusalBy, decided, step}
@@ -38,7 +38,8 @@ granted-fine d s (notices p n y day) x P e = not-refused x e
 granted-fine d s (assigns a g day) x P e = not-refused x e
 granted-fine d s (shows r g) x P e = not-refused x e
 granted-fine d s (asks p n) x P e = status-found (held p n (versionsIn d)) x (past 24 (rules (viewOf d) (lengthsOf s) (asks p n)) P) e
-granted-fine d s (settles r day) x P e = not-refused x e
+granted-fine d s (closes r day) x P e = not-refused x e
+granted-fine d s (issues r day) x P e = not-refused x e
 granted-fine d s (lodges g day es) x P e = not-refused x e
 granted-fine d s (reports r g) x P e = not-refused x e
 

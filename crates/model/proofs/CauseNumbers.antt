@@ -3,7 +3,7 @@ use Prim.Native.Nat.{_≤_, _<_}
 use lib.Dec.{lit≤, lit<}
 use Rattle.model.specs.Call.{causeNumber}
 use Rattle.model.specs.declared.Cause.{Cause}
-use Rattle.model.specs.declared.Cause.the-variants.{NotOpen, WrongLength, BadField, OpenAgain, BadOpening, PastDay, AfterCorrection, AfterClearing, PointActive, SameSeries, NotActive, HasVersion, TooEarly, VersionPresent, VersionBelow, NoVersion, NoticeBelow, NotCheckData, NoRow, NoLogRow, SettleTooEarly, AlreadySettled, FirstRunOpen}
+use Rattle.model.specs.declared.Cause.the-variants.{NotOpen, WrongLength, BadField, OpenAgain, BadOpening, PastDay, AfterCorrection, AfterClearing, PointActive, SameSeries, NotActive, HasVersion, TooEarly, VersionPresent, VersionBelow, NoVersion, NoticeBelow, NotCheckData, NoRow, NoLogRow, CloseTooEarly, AlreadyClosed, FirstRunOpen, NotClosed, AlreadyIssued}
 
 pub number-in : (x : Cause) → (1 ≤ causeNumber x) × (causeNumber x < 100)
 number-in NotOpen = (lit≤ tt, lit< tt)
@@ -26,6 +26,8 @@ number-in NoticeBelow = (lit≤ tt, lit< tt)
 number-in NotCheckData = (lit≤ tt, lit< tt)
 number-in NoRow = (lit≤ tt, lit< tt)
 number-in NoLogRow = (lit≤ tt, lit< tt)
-number-in SettleTooEarly = (lit≤ tt, lit< tt)
-number-in AlreadySettled = (lit≤ tt, lit< tt)
+number-in CloseTooEarly = (lit≤ tt, lit< tt)
+number-in AlreadyClosed = (lit≤ tt, lit< tt)
 number-in FirstRunOpen = (lit≤ tt, lit< tt)
+number-in NotClosed = (lit≤ tt, lit< tt)
+number-in AlreadyIssued = (lit≤ tt, lit< tt)

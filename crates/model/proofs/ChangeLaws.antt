@@ -1,4 +1,4 @@
--- What an accepted notice and a settle change, that one call never owes two log rows, and that show's part is the row. Assumes nothing.
+-- What an accepted notice and an issue change, that one call never owes two log rows, and that show's part is the row. Assumes nothing.
 use Prim.Native.Nat.{ℕ, _≤_}
 use mathlib.Core.Path.{_≡_, refl, sym, ap, _∙_}
 use mathlib.Core.Bool.{Bool, true, false, _&&_, true≢false}
@@ -30,7 +30,7 @@ use Rattle.state.specs.declared.VersionRecord.{VersionRecord}
 use Rattle.state.specs.declared.VersionRow.{VersionRow}
 use Rattle.state.proofs.Kept.{notice-negative, notice-other, settle-at, settle-same, settle-selected}
 use Rattle.state.proofs.Picks.{held-right, submit-other}
-use Rattle.model.specs.Call.{Call, opens, activates, deactivates, submits, notices, assigns, shows, asks, settles, lodges, reports, Stores, Lengths, Lent, told, telling}
+use Rattle.model.specs.Call.{Call, opens, activates, deactivates, submits, notices, assigns, shows, asks, closes, issues, lodges, reports, Stores, Lengths, Lent, told, telling}
 use Rattle.model.specs.Causes.{rules, notCheck, otherLengths}
 use Rattle.model.specs.Laws.{Passed, Confirms, OwesOne}
 use Rattle.model.specs.Plain.{Worked, after, viewBy}
@@ -131,7 +131,8 @@ one-owed w n (notices p x y d) =
 one-owed w n (assigns a g d) = owes-none (w .versions) (w .versions) (λ r i. refl)
 one-owed w n (shows r g) = owes-none (w .versions) (w .versions) (λ r i. refl)
 one-owed w n (asks p x) = owes-none (w .versions) (w .versions) (λ r i. refl)
-one-owed w n (settles r d) = owes-none (w .versions) (settledBy r (w .versions)) (settle-same r (w .versions))
+one-owed w n (closes r d) = owes-none (w .versions) (w .versions) (λ r i. refl)
+one-owed w n (issues r d) = owes-none (w .versions) (settledBy r (w .versions)) (settle-same r (w .versions))
 one-owed w n (lodges g d es) = owes-none (w .versions) (w .versions) (λ r i. refl)
 one-owed w n (reports r g) = owes-none (w .versions) (w .versions) (λ r i. refl)
 

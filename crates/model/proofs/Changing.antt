@@ -33,7 +33,7 @@ module _ (d : Desk) (s : Stores) (h : List Told) (H : Holds d s h) where
       → Stored (d .frame .opening .quarters) values ws es → length values ≡ d .frame .opening .values → length (versionsIn d) ≤ length ws
       → ((i : ℕ) → i < length (versionsIn d) → recordAt ws i .row .0 ≡ recordAt (versionsIn d) i .row .0) → ((r i : ℕ) → (i ≡ p → ⊥) → own r i ws ≡ own r i (versionsIn d))
       → Booked (d .frame .opening .quarters) (s .book) (figureOf (d .points) (d .frame .groups) (versionsIn d) es) → logFull (d .frame .used) (d .frame .opening .log) (due (versionsIn d) ws p e) ≡ false
-      → Kept (worked (d .frame .opening) e (d .points) (d .frame .groups) ws es (addRow (due (versionsIn d) ws p e) (logOf h)) (d .frame .settled) (schedulesOf h)) (followed d s p e ws values)
+      → Kept (worked (d .frame .opening) e (d .points) (d .frame .groups) ws es (addRow (due (versionsIn d) ws p e) (logOf h)) (d .frame .closed) (d .frame .issued) (schedulesOf h)) (followed d s p e ws values)
   changed-kept p e lo hi day ws values es Vs S long few rows same B free =
       let K = H .kept in
       let row = due (versionsIn d) ws p e in

@@ -17,7 +17,7 @@ use Rattle.state.specs.declared.Desk.{Desk}
 use Rattle.state.specs.declared.Held.{Held}
 use Rattle.state.specs.declared.Held.the-variants.{Absent, Has}
 use Rattle.model.specs.Agreement.{Running, Chained, end, fresh, bookFigure}
-use Rattle.model.specs.Call.{Call, opens, activates, deactivates, submits, notices, assigns, shows, asks, settles, lodges, reports, Stores, Lengths, lengthsOf, Lent, Told, told, telling, causeNumber}
+use Rattle.model.specs.Call.{Call, opens, activates, deactivates, submits, notices, assigns, shows, asks, closes, issues, lodges, reports, Stores, Lengths, lengthsOf, Lent, Told, told, telling, causeNumber}
 use Rattle.model.specs.Causes.{Rule, openingBy}
 use Rattle.model.specs.Demands.{Alike, Blind}
 use Rattle.model.specs.Log.{due}
@@ -76,7 +76,8 @@ granted-else d s (notices p x y day) e = not-refused NotOpen e
 granted-else d s (assigns a g day) e = not-refused NotOpen e
 granted-else d s (shows r g) e = not-refused NotOpen e
 granted-else d s (asks p x) e = status-else (held p x (versionsIn d)) e
-granted-else d s (settles r day) e = not-refused NotOpen e
+granted-else d s (closes r day) e = not-refused NotOpen e
+granted-else d s (issues r day) e = not-refused NotOpen e
 granted-else d s (lodges g day es) e = not-refused NotOpen e
 granted-else d s (reports r g) e = not-refused NotOpen e
 
@@ -96,7 +97,8 @@ never-one d n (notices p x y e) v o = rw (v, o)
 never-one d n (assigns a g e) v o = rw (v, o)
 never-one d n (shows r g) v o = rw (v, o)
 never-one d n (asks p x) v o = rw (v, o)
-never-one d n (settles r e) v o = rw (v, o)
+never-one d n (closes r e) v o = rw (v, o)
+never-one d n (issues r e) v o = rw (v, o)
 never-one d n (lodges g e es) v o = rw (v, o)
 never-one d n (reports r g) v o = rw (v, o)
 
@@ -130,7 +132,8 @@ granted-blind d (notices p x y day) s t e =
 granted-blind d (assigns a g day) s t e = record { answer = refl; desk = refl; row = Nothing; log = refl; otherLog = refl }
 granted-blind d (shows r g) s t e = record { answer = refl; desk = refl; row = Nothing; log = refl; otherLog = refl }
 granted-blind d (asks p x) s t e = record { answer = refl; desk = refl; row = Nothing; log = refl; otherLog = refl }
-granted-blind d (settles r day) s t e = record { answer = refl; desk = refl; row = Nothing; log = refl; otherLog = refl }
+granted-blind d (closes r day) s t e = record { answer = refl; desk = refl; row = Nothing; log = refl; otherLog = refl }
+granted-blind d (issues r day) s t e = record { answer = refl; desk = refl; row = Nothing; log = refl; otherLog = refl }
 granted-blind d (lodges g day es) s t e = record { answer = refl; desk = refl; row = Nothing; log = refl; otherLog = refl }
 granted-blind d (reports r g) s t e = record { answer = refl; desk = refl; row = Nothing; log = refl; otherLog = refl }
 

@@ -1,6 +1,6 @@
 -- As many versions are held as submissions were accepted. Assumes nothing.
 use Prim.Native.Nat.{ℕ, _+_}
-use mathlib.Core.Path.{_≡_, refl, _∙_}
+use mathlib.Core.Path.{_≡_, refl}
 use mathlib.Core.Bool.{_&&_}
 use mathlib.Core.List.{List, [], _∷_}
 use native.Mathlib.Omega.{arith}
@@ -14,7 +14,7 @@ use Rattle.state.specs.Version.{newVersion, restatus, held}
 use Rattle.state.specs.declared.Held.{Held}
 use Rattle.state.specs.declared.Held.the-variants.{Absent, Has}
 use Rattle.state.specs.declared.VersionRecord.{VersionRecord}
-use Rattle.model.specs.Call.{Call, opens, activates, deactivates, submits, notices, assigns, shows, asks, settles, lodges, reports, Lengths, Told, telling}
+use Rattle.model.specs.Call.{Call, opens, activates, deactivates, submits, notices, assigns, shows, asks, closes, issues, lodges, reports, Lengths, Told, telling}
 use Rattle.model.specs.Laws.{submissionBy, submissions}
 use Rattle.model.specs.Plain.{Worked, versionsOf, workedOut, after}
 
@@ -36,7 +36,8 @@ delivers w n (notices p x y d) = omega (arith, length-confirmed (w .opening .cle
 delivers w n (assigns a g d) = omega arith
 delivers w n (shows r g) = omega arith
 delivers w n (asks p x) = omega arith
-delivers w n (settles r d) = omega (arith, length-map (w .versions) (settle r (w .versions)))
+delivers w n (closes r d) = omega arith
+delivers w n (issues r d) = omega (arith, length-map (w .versions) (settle r (w .versions)))
 delivers w n (lodges g d es) = omega arith
 delivers w n (reports r g) = omega arith
 

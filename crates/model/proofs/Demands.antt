@@ -8,7 +8,7 @@ use Rattle.state.specs.declared.Held.the-variants.{Absent, Has}
 use Rattle.state.specs.Desk.{versionsIn}
 use Rattle.state.specs.Version.{held}
 use Rattle.model.specs.Agreement.{Running, Chained, next, replies, end, fresh, Agree}
-use Rattle.model.specs.Call.{Call, opens, activates, deactivates, submits, notices, assigns, shows, asks, settles, lodges, reports, Stores, Lent, told}
+use Rattle.model.specs.Call.{Call, opens, activates, deactivates, submits, notices, assigns, shows, asks, closes, issues, lodges, reports, Stores, Lent, told}
 use Rattle.model.specs.Demands.{Granted, Untouched, DemandOne, DemandTwo}
 use Rattle.model.specs.Plain.{plainReplies, plainEnd}
 use Rattle.model.specs.Step.{statusAnswer, granting, refusalBy, decided, step}
@@ -36,7 +36,8 @@ granted-so d s (notices p x y e) = refl
 granted-so d s (assigns a g e) = refl
 granted-so d s (shows r g) = refl
 granted-so d s (asks p x) = status-granted p x (held p x (versionsIn d))
-granted-so d s (settles r e) = refl
+granted-so d s (closes r e) = refl
+granted-so d s (issues r e) = refl
 granted-so d s (lodges g e es) = refl
 granted-so d s (reports r g) = refl
 
@@ -58,7 +59,8 @@ granted-keeps d s (notices p n y day) x e = not-refused x e
 granted-keeps d s (assigns a g day) x e = not-refused x e
 granted-keeps d s (shows r g) x e = not-refused x e
 granted-keeps d s (asks p n) x e = record { desk = refl; stores = refl; part = refl; surplus = refl; shortfall = refl }
-granted-keeps d s (settles r day) x e = not-refused x e
+granted-keeps d s (closes r day) x e = not-refused x e
+granted-keeps d s (issues r day) x e = not-refused x e
 granted-keeps d s (lodges g day es) x e = not-refused x e
 granted-keeps d s (reports r g) x e = not-refused x e
 

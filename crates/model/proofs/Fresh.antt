@@ -18,7 +18,7 @@ use Rattle.state.specs.Point.{freePoint}
 use Rattle.state.specs.Valid.{openingOk, frameOk, validDesk}
 use Rattle.state.specs.declared.Desk.{Desk}
 use Rattle.model.specs.Agreement.{Running, next, fresh, Agree}
-use Rattle.model.specs.Call.{Call, opens, activates, deactivates, submits, notices, assigns, shows, asks, settles, lodges, reports, Stores, lengthsOf, Lent, Told, told, Reply}
+use Rattle.model.specs.Call.{Call, opens, activates, deactivates, submits, notices, assigns, shows, asks, closes, issues, lodges, reports, Stores, lengthsOf, Lent, Told, told, Reply}
 use Rattle.model.specs.Causes.{orIf, firstOf, openingBy, opensOk, refusal}
 use Rattle.model.specs.Log.{logNumbers}
 use Rattle.model.specs.Plain.{viewIn, answered, joined, plainReply, plainNext, workedOut, after}
@@ -93,7 +93,8 @@ fresh-base s st (notices p x y e) = (refl, early refl refl)
 fresh-base s st (assigns a g e) = (refl, early refl refl)
 fresh-base s st (shows r g) = (refl, early refl refl)
 fresh-base s st (asks p x) = (refl, early refl refl)
-fresh-base s st (settles r e) = (refl, early refl refl)
+fresh-base s st (closes r e) = (refl, early refl refl)
+fresh-base s st (issues r e) = (refl, early refl refl)
 fresh-base s st (lodges g e es) = (refl, early refl refl)
 fresh-base s st (reports r g) = (refl, early refl refl)
 

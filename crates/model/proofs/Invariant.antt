@@ -35,7 +35,7 @@ use Rattle.model.proofs.Schedules.{Scheduled}
 -- the running desk as what is worked out, with what only a list has: energies, log rows and schedules
 abbrev pub worksOut : Desk → Worked → Worked
 worksOut d w =
-    worked (d .frame .opening) (d .frame .day .0) (d .points) (d .frame .groups) (versionsIn d) (w .energies) (w .log) (d .frame .settled) (w .schedules)
+    worked (d .frame .opening) (d .frame .day .0) (d .points) (d .frame .groups) (versionsIn d) (w .energies) (w .log) (d .frame .closed) (d .frame .issued) (w .schedules)
 
 -- ---- the invariant
 
@@ -130,8 +130,8 @@ module _ (d : Desk) (s : Stores) (h : List Told) (H : Holds d s h) where
   pub holds-view : viewOf d ≡ viewIn h
   unfolding viewIn
   holds-view =
-      ap (λ (n : ℕ). record { frame = frameOf (d .frame .opening) (d .frame .day .0) (d .frame .groups) n (d .frame .used) (d .frame .settled); points = d .points; versions = versionsIn d }) (sym (count-is d (H .table)))
-      ∙ ap (λ (n : ℕ). record { frame = frameOf (d .frame .opening) (d .frame .day .0) (d .frame .groups) (length (versionsIn d)) n (d .frame .settled); points = d .points; versions = versionsIn d }) (H .used)
+      ap (λ (n : ℕ). record { frame = frameOf (d .frame .opening) (d .frame .day .0) (d .frame .groups) n (d .frame .used) (d .frame .closed) (d .frame .issued); points = d .points; versions = versionsIn d }) (sym (count-is d (H .table)))
+      ∙ ap (λ (n : ℕ). record { frame = frameOf (d .frame .opening) (d .frame .day .0) (d .frame .groups) (length (versionsIn d)) n (d .frame .closed) (d .frame .issued); points = d .points; versions = versionsIn d }) (H .used)
       ∙ ap viewBy (H .works)
 
   pub holds-valid : validDesk d ≡ true

@@ -14,7 +14,7 @@ use Rattle.state.specs.Valid.{openingOk, frameOk, validDesk}
 use Rattle.state.specs.declared.Desk.{Desk}
 use Rattle.state.specs.declared.Opening.{Opening}
 use Rattle.model.specs.Agreement.{Running, Own, left, next, Chained, fresh, lend}
-use Rattle.model.specs.Call.{Call, opens, activates, deactivates, submits, notices, assigns, shows, asks, settles, lodges, reports, Taken, everyStore, allButSchedules, theBook, theSchedules, bookAndSchedules, Stores, Lengths, lengthsOf, Lent, Told, told, telling}
+use Rattle.model.specs.Call.{Call, opens, activates, deactivates, submits, notices, assigns, shows, asks, closes, issues, lodges, reports, Taken, everyStore, allButSchedules, theBook, theSchedules, bookAndSchedules, Stores, Lengths, lengthsOf, Lent, Told, told, telling}
 use Rattle.model.specs.Causes.{takes, orIf, firstOf, openingBy, opensOk, refusal}
 use Rattle.model.specs.Plain.{Worked, openingOf, viewIn, joined, plainNext, workedOut, after}
 use Rattle.model.specs.Step.{cleared, refusalBy, decided, step}
@@ -59,7 +59,8 @@ opening-stays h n (notices p x y d) e = unset-next h (telling n (notices p x y d
 opening-stays h n (assigns a g d) e = unset-next h (telling n (assigns a g d)) refl
 opening-stays h n (shows r g) e = unset-next h (telling n (shows r g)) refl
 opening-stays h n (asks p x) e = unset-next h (telling n (asks p x)) refl
-opening-stays h n (settles r d) e = unset-next h (telling n (settles r d)) refl
+opening-stays h n (closes r d) e = unset-next h (telling n (closes r d)) refl
+opening-stays h n (issues r d) e = unset-next h (telling n (issues r d)) refl
 opening-stays h n (lodges g d es) e = unset-next h (telling n (lodges g d es)) refl
 opening-stays h n (reports r g) e = unset-next h (telling n (reports r g)) refl
 
@@ -115,7 +116,8 @@ fresh-sized s (notices p x y d) = ap lengthsOf (left-self (freshDesk .frame .ope
 fresh-sized s (assigns a g d) = ap lengthsOf (left-self (freshDesk .frame .opening) theBook s)
 fresh-sized s (shows r g) = ap lengthsOf (left-self (freshDesk .frame .opening) theBook s)
 fresh-sized s (asks p x) = refl
-fresh-sized s (settles r d) = refl
+fresh-sized s (closes r d) = refl
+fresh-sized s (issues r d) = refl
 fresh-sized s (lodges g d es) = ap lengthsOf (left-self (freshDesk .frame .opening) theSchedules s)
 fresh-sized s (reports r g) = ap lengthsOf (left-self (freshDesk .frame .opening) bookAndSchedules s)
 

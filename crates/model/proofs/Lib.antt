@@ -6,14 +6,18 @@ pub mod CauseLaws
 pub mod CauseNumbers
 pub mod ChangeLaws
 pub mod Changing
+pub mod Closed
 pub mod Corollaries
 pub mod Deliveries
 pub mod Demands
 pub mod Deviations
 pub mod Ends
 pub mod Figures
+pub mod Flags
 pub mod Fresh
 pub mod Invariant
+pub mod Issued
+pub mod IssuedStatus
 pub mod Lending
 pub mod Lends
 pub mod Lists
@@ -31,8 +35,6 @@ pub mod SampleRunning
 pub mod Schedules
 pub mod Selections
 pub mod SeriesTable
-pub mod Settled
-pub mod SettledStatus
 pub mod Storing
 pub mod Submit
 pub mod TableDue

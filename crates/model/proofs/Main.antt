@@ -2,7 +2,7 @@
 use mathlib.Core.Path.{_≡_, refl}
 use mathlib.Core.List.{List, [], _∷_, map}
 use Rattle.model.specs.Agreement.{Running, Own, next, Chained, replies, end, fresh, Agree, Agreement}
-use Rattle.model.specs.Call.{Call, opens, activates, deactivates, submits, notices, assigns, shows, asks, settles, lodges, reports, Stores, lengthsOf, Lent, Told, told, Reply}
+use Rattle.model.specs.Call.{Call, opens, activates, deactivates, submits, notices, assigns, shows, asks, closes, issues, lodges, reports, Stores, lengthsOf, Lent, Told, told, Reply}
 use Rattle.model.specs.Causes.{takes, rules, refusal}
 use Rattle.model.specs.Laws.{Passed}
 use Rattle.model.specs.Plain.{viewIn, answered, joined, plainReply, plainNext, plainReplies, plainEnd}
@@ -19,7 +19,7 @@ use Rattle.model.proofs.Lending.{left-own}
 use Rattle.model.proofs.Notice.{notice-granted}
 use Rattle.model.proofs.Points.{activate-granted, deactivate-granted}
 use Rattle.model.proofs.Queries.{show-granted, status-granted}
-use Rattle.model.proofs.Restating.{settle-granted}
+use Rattle.model.proofs.Restating.{close-granted, issue-granted}
 use Rattle.model.proofs.Rules.{passed}
 use Rattle.model.proofs.Submit.{submit-granted}
 use Rattle.state.specs.declared.Desk.{Desk}
@@ -34,7 +34,8 @@ every (notices p x y d) = notice-granted p x y d
 every (assigns a g d) = assign-granted a g d
 every (shows r g) = show-granted r g
 every (asks p x) = status-granted p x
-every (settles r d) = settle-granted r d
+every (closes r d) = close-granted r d
+every (issues r d) = issue-granted r d
 every (lodges g d es) = lodge-granted g d es
 every (reports r g) = report-granted r g
 

@@ -27,12 +27,12 @@ use Rattle.state.specs.declared.VersionRow.{VersionRow}
 use Rattle.state.proofs.Kept.{notice-negative, notice-other, settle-same}
 use Rattle.state.proofs.Picks.{best-highest, held-right, own-highest, own-most}
 use Rattle.model.specs.Agreement.{Running, Chained, next, end, fresh}
-use Rattle.model.specs.Call.{Call, opens, activates, deactivates, submits, notices, assigns, shows, asks, settles, lodges, reports, Stores, Lengths, Lent, Told, told, telling, Reply}
+use Rattle.model.specs.Call.{Call, opens, activates, deactivates, submits, notices, assigns, shows, asks, closes, issues, lodges, reports, Stores, Lengths, Lent, Told, told, telling, Reply}
 use Rattle.model.specs.Causes.{rules, noticeOk, refusal}
 use Rattle.model.specs.Laws.{Passed, Rising, OwnAbove, TakenUp, NoticeCounts}
 use Rattle.model.specs.Log.{logRow, due, addRow, logNumbers}
 use Rattle.model.specs.Plain.{openingOf, dayOf, versionsOf, logOf, viewIn, answered, joined, plainReply, plainNext, plainEnd, workedOut, after}
-use Rattle.model.specs.Step.{step}
+use Rattle.model.specs.Step.{step, replyOf}
 use Rattle.model.specs.View.{View}
 use Rattle.model.specs.declared.Answer.the-variants.{Accepted}
 use Rattle.model.specs.declared.Due.{Due}
@@ -48,7 +48,7 @@ use Rattle.model.proofs.Logs.{numbers-snoc}
 use Rattle.model.proofs.Main.{agree, one-step}
 use Rattle.model.proofs.Rules.{not-refused, passed, past}
 use Rattle.model.proofs.Selections.{best-none, own-uncounted, own-unturned, Restated, noticed-restated, settled-restated, restated-length, restated-at}
-use Rattle.model.proofs.Settled.{day-grows, before-clearing, Plain, empty, opened, always-kept, end-append}
+use Rattle.model.proofs.Closed.{day-grows, before-clearing, Plain, empty, opened, always-kept, end-append}
 use Rattle.model.proofs.TableDue.{check-held, notice-taken, notice-first, notice-second}
 use Rattle.model.proofs.TableLaw.{highest-below}
 
@@ -260,14 +260,15 @@ module _ (h : List Told) (P : Plain h) (S : Ordered h) (n : Lengths) where
   ordered-next (asks p x) Q = record { rising = S .rising; late = S .late; above = S .above }
   ordered-next (lodges g d es) Q = record { rising = S .rising; late = λ i s e. omega (arith, S .late i s e, day-grows (viewIn h) n (lodges g d es) Q); above = S .above }
   ordered-next (reports r g) Q = record { rising = S .rising; late = S .late; above = S .above }
-  ordered-next (settles r d) Q =
+  ordered-next (closes r d) Q = record { rising = S .rising; late = λ i s e. omega (arith, S .late i s e, day-grows (viewIn h) n (closes r d) Q); above = S .above }
+  ordered-next (issues r d) Q =
       let same : (run i : ℕ) → SameVersion (own run i (settledBy r vs)) (own run i vs) = λ run i. settle-same r vs run i in
       record {
         rising = rising-restated vs (settledBy r vs) (settled-restated r vs) (S .rising);
         late =
             λ i s e.
             let t = same-selected (own 2 i (settledBy r vs)) (own 2 i vs) s (same 2 i) e in
-            omega (arith, S .late i (t .0) (t .1 .0), day-grows (viewIn h) n (settles r d) Q);
+            omega (arith, S .late i (t .0) (t .1 .0), day-grows (viewIn h) n (issues r d) Q);
         above =
             λ i q s a b.
             let t = same-selected (own 1 i (settledBy r vs)) (own 1 i vs) q (same 1 i) a in
@@ -310,6 +311,12 @@ unfolding Chained end
 chained-back r [] m c = c
 chained-back r (x ∷ l) m c = chained-back (next r x) l m (c .1)
 
+-- both desks reply alike to a call behind others
+pub last-reply : (s : Stores) (l : List Lent) (m : Lent) → Chained (fresh s) (l ++ (m ∷ [])) → replyOf (step (end (fresh s) l .desk) m) ≡ plainReply (plainEnd [] (map told l)) (told m)
+unfolding Chained
+last-reply s l m c =
+    one-step (end (fresh s) l) (plainEnd [] (map told l)) m (reached s l (chained-front (fresh s) l (m ∷ []) c)) (chained-back (fresh s) l (m ∷ []) c .0) .0
+
 -- what the plain desk accepts it does not refuse
 accepts-fine : (h : List Told) (t : Told) → plainReply h t .answer ≡ Accepted → refusal (viewIn h) t ≡ Fine
 unfolding plainReply answered
@@ -319,19 +326,24 @@ accepts-fine h t e = go (refusal (viewIn h) t) refl e
     go Fine z e = z
     go (Refuse x) z e = not-refused x (sym e)
 
+-- an accepted call joins the list
+pub accepted-joins : (s : Stores) (l : List Lent) (m : Lent) → Chained (fresh s) (l ++ (m ∷ [])) → step (end (fresh s) l .desk) m .answer ≡ Accepted
+    → (refusal (viewIn (plainEnd [] (map told l))) (told m) ≡ Fine) × (plainEnd [] (map told (l ++ (m ∷ []))) ≡ told m ∷ plainEnd [] (map told l))
+unfolding Chained plainEnd plainNext joined
+accepted-joins s l m c e =
+    let h = plainEnd [] (map told l) in
+    let same = last-reply s l m c in
+    let fine = accepts-fine h (told m) (ap (λ (r : Reply). r .answer) (sym same) ∙ e) in
+    (fine, ap (plainEnd []) (map-append told l (m ∷ [])) ∙ end-append [] (map told l) (told m ∷ []) ∙ rw fine)
+
 pub running-counts : (s st : Stores) (l : List Lent) (p x d : ℕ) → let m : Lent = record { call = notices p x 1 d; stores = st } in
     Chained (fresh s) (l ++ (m ∷ [])) → step (end (fresh s) l .desk) m .answer ≡ Accepted
     → let a = end (fresh s) l in let b = end (fresh s) (l ++ (m ∷ [])) in
     NoticeCounts (a .desk .frame .opening .clearing .0) p x d (versionsIn (a .desk)) (versionsIn (b .desk))
     (take (4 * a .desk .frame .used) (a .stores .log)) (take (4 * b .desk .frame .used) (b .stores .log))
-unfolding Chained plainEnd plainNext joined
 running-counts s st l p x d c e =
     let m : Lent = record { call = notices p x 1 d; stores = st } in
-    let front = chained-front (fresh s) l (m ∷ []) c in
-    let h = plainEnd [] (map told l) in
-    let same = one-step (end (fresh s) l) h m (reached s l front) (chained-back (fresh s) l (m ∷ []) c .0) .0 in
-    let fine = accepts-fine h (told m) (ap (λ (r : Reply). r .answer) (sym same) ∙ e) in
-    let joins : plainEnd [] (map told (l ++ (m ∷ []))) ≡ told m ∷ h = ap (plainEnd []) (map-append told l (m ∷ [])) ∙ end-append [] (map told l) (told m ∷ []) ∙ rw fine in
-    let A = agree s l front in
+    let J = accepted-joins s l m c e in
+    let A = agree s l (chained-front (fresh s) l (m ∷ []) c) in
     let B = agree s (l ++ (m ∷ [])) c in
-    rw (A .opening, A .versions, A .log, B .versions, B .log, joins) (plain-counts (map told l) (told m .lengths) p x d fine)
+    rw (A .opening, A .versions, A .log, B .versions, B .log, J .1) (plain-counts (map told l) (told m .lengths) p x d (J .0))

@@ -61,7 +61,7 @@ module _ (p x y e : ℕ) (d : Desk) (s : Stores) (h : List Told) (H : Holds d s 
       finish d s h H (record { call = notices p x y e; lengths = lengthsOf st }) desk (followed d s p e turned (s .values))
       (record { size = confirm-length c y e (d .versions) found ∙ T .size; count = T .count })
       (ap (usedAfter row) (H .used) ∙ used-rows row (logOf h))
-      (ap (λ (l : List VersionRecord). worked (d .frame .opening) e (d .points) (d .frame .groups) l (energiesOf h) (addRow row (logOf h)) (d .frame .settled) (schedulesOf h))
+      (ap (λ (l : List VersionRecord). worked (d .frame .opening) e (d .points) (d .frame .groups) l (energiesOf h) (addRow row (logOf h)) (d .frame .closed) (d .frame .issued) (schedulesOf h))
       (noticed-versions d p x y e (omega (arith, T .size, T .count))))
       (changed-kept d s h H p e (within-low 1 points p inP) (within-high 1 points p inP) day turned (s .values) (energiesOf h)
       (versioned-restated (versionsIn d) turned same (d .frame .opening) (d .points) (K .versioned))

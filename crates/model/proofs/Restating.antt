@@ -1,4 +1,4 @@
--- Versions of which only statuses change: what holds of them stays. And settle, accepted. Assumes nothing.
+-- Versions of which only statuses change: what holds of them stays. And close and issue, accepted. Assumes nothing.
 use Prim.Native.Nat.{ℕ, _*_, _≤_}
 use mathlib.Core.Path.{_≡_, refl, sym, ap, _∙_, subst}
 use mathlib.Core.Bool.{_&&_}
@@ -11,14 +11,14 @@ use Rattle.quantity.specs.Limits.{runOk, dayOk}
 use Rattle.quantity.specs.Lists.{fold}
 use Rattle.quantity.proofs.Tests.{and-right}
 use Rattle.state.specs.Change.{settle, settledBy, settledDesk}
-use Rattle.state.specs.Desk.{rowsIn, versionsIn, deskWith, theDay, theSettled, flagged}
+use Rattle.state.specs.Desk.{rowsIn, versionsIn, deskWith, theDay, theClosed, theIssued, flagged}
 use Rattle.state.specs.Valid.{versionRecordOk}
 use Rattle.state.specs.Version.{recordAt}
 use Rattle.state.specs.declared.Opening.{Opening}
 use Rattle.state.specs.declared.PointRecord.{PointRecord}
 use Rattle.state.specs.declared.VersionRecord.{VersionRecord}
 use Rattle.state.proofs.Kept.{settle-same, settled-versions}
-use Rattle.model.specs.Call.{settles, lengthsOf}
+use Rattle.model.specs.Call.{closes, issues, lengthsOf}
 use Rattle.model.specs.Plain.{worked, after, energiesOf, logOf, schedulesOf}
 use Rattle.model.proofs.Amends.{Stored}
 use Rattle.model.proofs.Books.{Reads, booked-same}
@@ -51,24 +51,47 @@ module _ (vs ws : List VersionRecord) (e : Restated vs ws) where
         reads = λ i l. subst (λ (r : ℕ). Reads q values (r * q) (λ (j : ℕ). getD (getD es i []) j (pos 0))) (sym (same-row i)) (S .reads i (omega arith));
       }
 
-pub settle-granted : (r e : ℕ) → Granted (settles r e)
+-- no version changes
+pub close-granted : (r e : ℕ) → Granted (closes r e)
 unfolding after fold
-settle-granted r e d s h st H o P =
+close-granted r e d s h st H o P =
+    let K = H .kept in
+    record {
+      reply = refl;
+      holds =
+          finish d s h H (record { call = closes r e; lengths = lengthsOf st }) (deskWith (deskWith d (theClosed (flagged r (d .frame .closed)))) (theDay e)) s (H .table) (H .used) refl
+          (record {
+            framed = record { opening = K .framed .opening; day = and-right (runOk r) _ (not-false (runOk r && dayOk e) (P .1 .0)); used = K .framed .used };
+            grouped = K .grouped;
+            pointed = K .pointed;
+            versioned = K .versioned;
+            stored = K .stored;
+            booked = K .booked;
+            valuesLong = K .valuesLong;
+            logLong = K .logLong;
+            logged = K .logged;
+            scheduled = K .scheduled;
+          });
+    }
+
+pub issue-granted : (r e : ℕ) → Granted (issues r e)
+unfolding after fold
+issue-granted r e d s h st H o P =
     let fields = not-false (runOk r && dayOk e) (P .1 .0) in
     let K = H .kept in
     let T = H .table in
     let vs = versionsIn d in
     let ws = settledBy r vs in
     let long : d .frame .count ≤ length (d .versions) = omega (arith, T .size, T .count) in
-    let d′ = deskWith (deskWith (settledDesk d r) (theSettled (flagged r (d .frame .settled)))) (theDay e) in
+    let d′ = deskWith (deskWith (settledDesk d r) (theIssued (flagged r (d .frame .issued)))) (theDay e) in
     let same : versionsIn d′ ≡ ws = settled-versions d r long in
     record {
       reply = refl;
       holds =
-          finish d s h H (record { call = settles r e; lengths = lengthsOf st }) d′ s
+          finish d s h H (record { call = issues r e; lengths = lengthsOf st }) d′ s
           (record { size = length-mapFirst (settle r vs) (d .versions) (d .frame .count) long ∙ T .size; count = T .count })
           (H .used)
-          (ap (λ (l : List VersionRecord). worked (d .frame .opening) e (d .points) (d .frame .groups) l (energiesOf h) (logOf h) (flagged r (d .frame .settled)) (schedulesOf h)) same)
+          (ap (λ (l : List VersionRecord). worked (d .frame .opening) e (d .points) (d .frame .groups) l (energiesOf h) (logOf h) (d .frame .closed) (flagged r (d .frame .issued)) (schedulesOf h)) same)
           (record {
             framed = record { opening = K .framed .opening; day = and-right (runOk r) _ fields; used = K .framed .used };
             grouped = K .grouped;

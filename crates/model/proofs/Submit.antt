@@ -117,7 +117,7 @@ module _ (p x e : ℕ) (es : List ℤ) (d : Desk) (s : Stores) (h : List Told) (
       finish d s h H (record { call = submits p x e es; lengths = lengthsOf st }) (desk m) (stores m)
       (record { size = length-set (d .versions) (d .frame .count) (new m) ∙ T .size; count = omega (arith, below, n) })
       (ap (usedAfter row) (H .used) ∙ used-rows row (logOf h))
-      (ap (λ (l : List VersionRecord). worked (d .frame .opening) e (d .points) (d .frame .groups) l (energiesOf h ++ (es ∷ [])) (addRow row (logOf h)) (d .frame .settled) (schedulesOf h))
+      (ap (λ (l : List VersionRecord). worked (d .frame .opening) e (d .points) (d .frame .groups) l (energiesOf h ++ (es ∷ [])) (addRow row (logOf h)) (d .frame .closed) (d .frame .issued) (schedulesOf h))
       (submitted-versions d (new m) (omega (arith, below, n, T .size))))
       (changed-kept d s h H p e (within-low 1 points p inP) (within-high 1 points p inP) (and-left (dayOk e) _ rest) (more m) (values m) (energiesOf h ++ (es ∷ [])) versioned
       (stored-more (d .frame .opening .quarters) (s .values) (versionsIn d) (energiesOf h) (K .stored) (new m) refl es room full small)

@@ -28,7 +28,7 @@ use Rattle.state.specs.declared.Selection.the-variants.{None, Selected}
 use Rattle.state.specs.declared.VersionRow.{VersionRow}
 use Rattle.state.proofs.Limits.{means-series, means-valid}
 use Rattle.state.proofs.Picks.{best-highest}
-use Rattle.model.specs.Call.{Call, opens, activates, deactivates, submits, notices, assigns, shows, asks, settles, lodges, reports, Stores, Lengths, lengthsOf, Lent, Told, told, causeNumber}
+use Rattle.model.specs.Call.{Call, opens, activates, deactivates, submits, notices, assigns, shows, asks, closes, issues, lodges, reports, Stores, Lengths, lengthsOf, Lent, Told, told, causeNumber}
 use Rattle.model.specs.Causes.{Rule, terms, takes, rules, otherLengths, firstOf, opensOk, openingBy, submitOk, noticeOk, lodgeOk, logFull, isAbsent, isBelow, notCheck, refusal}
 use Rattle.model.specs.Laws.{Passed, Decides, here, below}
 use Rattle.model.specs.Log.{due}
@@ -45,7 +45,7 @@ use Rattle.model.specs.declared.Ruling.the-variants.{Fine, Refuse}
 use Rattle.model.proofs.CauseLaws.{status-found, step-accepts, step-refused, step-refuses}
 use Rattle.model.proofs.Rules.{not-refused, passed, passed-fine, past, first-decides, decides-first}
 use Rattle.model.proofs.TableDue.{check-held, means-submit-due, means-notice-due}
-use Rattle.model.proofs.TableWords.{means-unopened, means-allowed, means-stores, means-book, means-schedules, means-both, means-submit, means-lodge, means-active, means-early, means-same-series, means-has, means-present, means-absent, means-status, means-below, means-deadline, means-flag, means-second}
+use Rattle.model.proofs.TableWords.{means-unopened, means-allowed, means-stores, means-book, means-schedules, means-both, means-submit, means-lodge, means-active, means-early, means-same-series, means-has, means-present, means-absent, means-status, means-below, means-deadline, means-flag, means-unflagged, means-second}
 
 -- ---- tests and a table that say the same
 
@@ -123,6 +123,9 @@ module _ (v : View) (n : Lengths) where
       let h = check-held (held p x (v .versions)) check in
       means-notice-due (v .versions) (v .frame .opening .clearing .0) p x d (h .0) (h .1 .0) (h .1 .1 .0) (h .1 .1 .1) (ltb-false x (highest p (v .versions)) top) y (v .frame .used) (v .frame .opening .log)
 
+  run-in : (r d : ℕ) → not (runOk r && dayOk d) ≡ false → (r ≡ 1) ⊎ (r ≡ 2)
+  run-in r d fields = means-run r .holds (and-left (runOk r) _ (not-false (runOk r && dayOk d) fields))
+
   pub says : (c : Call) → Says (rules v n c) (table v n c)
   says (opens q f c k gs) =
       said (means-not _ (means-eq (v .frame .opening .quarters) 0)) (λ _.
@@ -199,17 +202,21 @@ module _ (v : View) (n : Lengths) where
       said (means-both n (v .frame .opening)) (λ _.
       said (means-not (runOk r && groupOk g) (means-and (runOk r) _ (means-run r) (λ _. means-group g))) (λ _.
       tt)))
-  says (settles r d) =
+  says (closes r d) =
       said unopened (λ _.
       said (means-not (runOk r && dayOk d) (means-and (runOk r) _ (means-run r) (λ _. means-day d))) (λ fields.
       said (means-lt d (v .frame .day .0)) (λ _.
-      said (means-deadline (v .frame .opening) r d (run-in fields)) (λ _.
-      said (means-flag (v .frame .settled) r (run-in fields)) (λ _.
-      said (means-second (v .frame .settled) r) (λ _.
+      said (means-deadline (v .frame .opening) r d (run-in r d fields)) (λ _.
+      said (means-flag (v .frame .closed) r (run-in r d fields)) (λ _.
+      said (means-second (v .frame .closed) r) (λ _.
       tt))))))
-    where
-      run-in : not (runOk r && dayOk d) ≡ false → (r ≡ 1) ⊎ (r ≡ 2)
-      run-in fields = means-run r .holds (and-left (runOk r) _ (not-false (runOk r && dayOk d) fields))
+  says (issues r d) =
+      said unopened (λ _.
+      said (means-not (runOk r && dayOk d) (means-and (runOk r) _ (means-run r) (λ _. means-day d))) (λ fields.
+      said (means-lt d (v .frame .day .0)) (λ _.
+      said (means-unflagged (v .frame .closed) r (run-in r d fields)) (λ _.
+      said (means-flag (v .frame .issued) r (run-in r d fields)) (λ _.
+      tt)))))
 
 -- "only those that fit the call": the numbers of a call's lines stand in the order of the whole table
 pub in-order : (v : View) (n : Lengths) (c : Call) → among order (numbersIn (table v n c)) ≡ numbersIn (table v n c)
@@ -222,7 +229,8 @@ in-order v n (notices p x y d) = refl
 in-order v n (assigns a g d) = refl
 in-order v n (shows r g) = refl
 in-order v n (asks p x) = refl
-in-order v n (settles r d) = refl
+in-order v n (closes r d) = refl
+in-order v n (issues r d) = refl
 in-order v n (lodges g d es) = refl
 in-order v n (reports r g) = refl
 
@@ -238,7 +246,8 @@ taken-asked v n (notices p x y d) e = or-false _
 taken-asked v n (assigns a g d) e = or-false _
 taken-asked v n (shows r g) e = or-false _
 taken-asked v n (asks p x) e = refl
-taken-asked v n (settles r d) e = refl
+taken-asked v n (closes r d) e = refl
+taken-asked v n (issues r d) e = refl
 taken-asked v n (lodges g d es) e = or-false _
 taken-asked v n (reports r g) e = or-false _
 
@@ -285,7 +294,8 @@ module _ (d : Desk) (s : Stores) where
   step-by-table (assigns a g t) = others (assigns a g t) (said limits (λ _. says (viewOf d) (lengthsOf s) (assigns a g t)))
   step-by-table (shows r g) = others (shows r g) (said limits (λ _. says (viewOf d) (lengthsOf s) (shows r g)))
   step-by-table (asks p x) = others (asks p x) (said limits (λ _. says (viewOf d) (lengthsOf s) (asks p x)))
-  step-by-table (settles r t) = others (settles r t) (said limits (λ _. says (viewOf d) (lengthsOf s) (settles r t)))
+  step-by-table (closes r t) = others (closes r t) (said limits (λ _. says (viewOf d) (lengthsOf s) (closes r t)))
+  step-by-table (issues r t) = others (issues r t) (said limits (λ _. says (viewOf d) (lengthsOf s) (issues r t)))
   step-by-table (lodges g t es) = others (lodges g t es) (said limits (λ _. says (viewOf d) (lengthsOf s) (lodges g t es)))
   step-by-table (reports r g) = others (reports r g) (said limits (λ _. says (viewOf d) (lengthsOf s) (reports r g)))
 
@@ -300,7 +310,8 @@ granted-fine h n (notices p y z d) x P e = not-refused x e
 granted-fine h n (assigns a g d) x P e = not-refused x e
 granted-fine h n (shows r g) x P e = not-refused x e
 granted-fine h n (asks p y) x P e = status-found (held p y (versionsOf h)) x (past 24 (rules (viewIn h) n (asks p y)) P) e
-granted-fine h n (settles r d) x P e = not-refused x e
+granted-fine h n (closes r d) x P e = not-refused x e
+granted-fine h n (issues r d) x P e = not-refused x e
 granted-fine h n (lodges g d es) x P e = not-refused x e
 granted-fine h n (reports r g) x P e = not-refused x e
 

@@ -35,7 +35,7 @@ use Rattle.state.proofs.Limits.{means-opening}
 use Rattle.state.proofs.Picks.{best-highest, held-right}
 use Rattle.model.specs.Call.{Lengths, allButSchedules, theBook, theSchedules, bookAndSchedules}
 use Rattle.model.specs.Causes.{openingBy, opensOk, otherLengths, submitOk, lodgeOk, isAbsent, isBelow, notCheck, deadline}
-use Rattle.model.specs.Table.{ActiveAt, SameSeries, FoundAt, Present, BelowHighest, Allowed, SubmitIn, LodgeIn}
+use Rattle.model.specs.Table.{ActiveAt, SameSeries, FoundAt, Present, BelowHighest, Set, Unset, Allowed, SubmitIn, LodgeIn}
 
 -- ---- the opening
 
@@ -265,10 +265,16 @@ pub means-deadline : (o : Opening) (r d : ℕ) → (r ≡ 1) ⊎ (r ≡ 2)
 means-deadline o r d run =
     by-run (λ (t : Bool). leb d (cond t (o .clearing .0) (o .correction .0))) r run (means-le d (o .clearing .0)) (means-le d (o .correction .0))
 
-pub means-flag : (s : Runs) (r : ℕ) → (r ≡ 1) ⊎ (r ≡ 2) → Means (flagOf r s) (((r ≡ 1) × (s .first ≡ true)) ⊎ ((r ≡ 2) × (s .second ≡ true)))
+means-unset : (b : Bool) → Means (not b) (b ≡ false)
+means-unset b = record { holds = not-true b; fails = λ e p. true≢false (sym (not-false b e) ∙ p) }
+
+pub means-flag : (s : Runs) (r : ℕ) → (r ≡ 1) ⊎ (r ≡ 2) → Means (flagOf r s) (Set r s)
 means-flag s r run = by-run (λ (t : Bool). cond t (s .first) (s .second)) r run (means-test (s .first)) (means-test (s .second))
+
+pub means-unflagged : (s : Runs) (r : ℕ) → (r ≡ 1) ⊎ (r ≡ 2) → Means (not (flagOf r s)) (Unset r s)
+means-unflagged s r run = by-run (λ (t : Bool). not (cond t (s .first) (s .second))) r run (means-unset (s .first)) (means-unset (s .second))
 
 pub means-second : (s : Runs) (r : ℕ) → Means (eqb r 2 && not (flagOf 1 s)) ((r ≡ 2) × (s .first ≡ false))
 means-second s r =
     means-and (eqb r 2) (not (s .first)) (means-eq r 2)
-    (λ _. record { holds = not-true (s .first); fails = λ e p. true≢false (sym (not-false (s .first) e) ∙ p) })
+    (λ _. means-unset (s .first))

@@ -1,4 +1,4 @@
--- The nine calls of document 01 and the two of document 02 with what is lent to them, and their answers with the papers' numbers.
+-- The calls of documents 01 and 02 with what is lent to them, and their answers with the papers' numbers.
 use Prim.Native.Nat.{ℕ}
 use mathlib.Core.Bool.{Bool, true, false}
 use mathlib.Core.List.{List}
@@ -6,7 +6,7 @@ use lib.IntN.{ℤ}
 use lib.ListN.{length}
 use Rattle.state.specs.Status.{statusNumber}
 use Rattle.model.specs.declared.Cause.{Cause}
-use Rattle.model.specs.declared.Cause.the-variants.{NotOpen, WrongLength, BadField, OpenAgain, BadOpening, PastDay, AfterCorrection, AfterClearing, PointActive, SameSeries, NotActive, HasVersion, TooEarly, VersionPresent, VersionBelow, NoVersion, NoticeBelow, NotCheckData, NoRow, NoLogRow, SettleTooEarly, AlreadySettled, FirstRunOpen}
+use Rattle.model.specs.declared.Cause.the-variants.{NotOpen, WrongLength, BadField, OpenAgain, BadOpening, PastDay, AfterCorrection, AfterClearing, PointActive, SameSeries, NotActive, HasVersion, TooEarly, VersionPresent, VersionBelow, NoVersion, NoticeBelow, NotCheckData, NoRow, NoLogRow, CloseTooEarly, AlreadyClosed, FirstRunOpen, NotClosed, AlreadyIssued}
 use Rattle.model.specs.declared.Answer.{Answer}
 use Rattle.model.specs.declared.Answer.the-variants.{Accepted, HasStatus, Refused}
 
@@ -29,8 +29,8 @@ pub record Lengths : Type 0 where
 abbrev pub lengthsOf : Stores → Lengths
 lengthsOf s = record { values = length (s .values); book = length (s .book); log = length (s .log); schedules = length (s .schedules) }
 
--- "The calls, in building order", each with its fields; document 02: "A schedule of Q energies per group .. is lodged up to day C", "A report of run
--- and group"
+-- "The calls, in building order", each with its fields; document 02: "Settle becomes close .. and issue .., both with run and day", "A schedule of Q
+-- energies per group .. is lodged up to day C", "A report of run and group"
 pub data Call : Type 0 where
   opens : (quarters first clearing correction : ℕ) (groups : List ℕ) → Call
   activates : (point kind area partner day : ℕ) → Call
@@ -40,7 +40,8 @@ pub data Call : Type 0 where
   assigns : (area group day : ℕ) → Call
   shows : (run group : ℕ) → Call
   asks : (point version : ℕ) → Call
-  settles : (run day : ℕ) → Call
+  closes : (run day : ℕ) → Call
+  issues : (run day : ℕ) → Call
   lodges : (group day : ℕ) (energies : List ℤ) → Call
   reports : (run group : ℕ) → Call
 
@@ -115,9 +116,11 @@ causeNumber NoticeBelow = 37
 causeNumber NotCheckData = 25
 causeNumber NoRow = 16
 causeNumber NoLogRow = 17
-causeNumber SettleTooEarly = 27
-causeNumber AlreadySettled = 28
+causeNumber CloseTooEarly = 27
+causeNumber AlreadyClosed = 28
 causeNumber FirstRunOpen = 29
+causeNumber NotClosed = 38
+causeNumber AlreadyIssued = 39
 
 -- "A call accepted returns 0 (status: 1..5; show: the row). An accepted status is its own case of the answer."
 abbrev pub answerNumber : Answer → ℕ

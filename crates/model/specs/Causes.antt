@@ -18,12 +18,12 @@ use Rattle.state.specs.declared.Held.{Held}
 use Rattle.state.specs.declared.Held.the-variants.{Absent, Has}
 use Rattle.state.specs.declared.Opening.{Opening}
 use Rattle.state.specs.declared.VersionRecord.{VersionRecord}
-use Rattle.model.specs.Call.{Call, opens, activates, deactivates, submits, notices, assigns, shows, asks, settles, lodges, reports, Lengths, Taken, everyStore, allButSchedules, theBook, theSchedules, bookAndSchedules, noStore, Told}
+use Rattle.model.specs.Call.{Call, opens, activates, deactivates, submits, notices, assigns, shows, asks, closes, issues, lodges, reports, Lengths, Taken, everyStore, allButSchedules, theBook, theSchedules, bookAndSchedules, noStore, Told}
 use Rattle.model.specs.Log.{due}
 use Rattle.model.specs.View.{View}
 use Rattle.model.specs.declared.Asks.{Asks}
 use Rattle.model.specs.declared.Cause.{Cause}
-use Rattle.model.specs.declared.Cause.the-variants.{NotOpen, WrongLength, BadField, OpenAgain, BadOpening, PastDay, AfterCorrection, AfterClearing, PointActive, SameSeries, NotActive, HasVersion, TooEarly, VersionPresent, VersionBelow, NoVersion, NoticeBelow, NotCheckData, NoRow, NoLogRow, SettleTooEarly, AlreadySettled, FirstRunOpen}
+use Rattle.model.specs.declared.Cause.the-variants.{NotOpen, WrongLength, BadField, OpenAgain, BadOpening, PastDay, AfterCorrection, AfterClearing, PointActive, SameSeries, NotActive, HasVersion, TooEarly, VersionPresent, VersionBelow, NoVersion, NoticeBelow, NotCheckData, NoRow, NoLogRow, CloseTooEarly, AlreadyClosed, FirstRunOpen, NotClosed, AlreadyIssued}
 use Rattle.model.specs.declared.Due.{Due}
 use Rattle.model.specs.declared.Due.the-variants.{Nothing, Row}
 use Rattle.model.specs.declared.Ruling.{Ruling}
@@ -280,7 +280,7 @@ terms (asks p x) =
           (rule (isAbsent (held p x (v .versions))) NoVersion
           [])));
     }
-terms (settles r d) =
+terms (closes r d) =
     record {
       opening = false;
       takes = noStore;
@@ -291,10 +291,25 @@ terms (settles r d) =
           rule (not (isOpen (v .frame .opening))) NotOpen
           (rule (not (runOk r && dayOk d)) BadField
           (rule (ltb d (v .frame .day .0)) PastDay
-          (rule (leb d (deadline (v .frame .opening) r)) SettleTooEarly
-          (rule (flagOf r (v .frame .settled)) AlreadySettled
-          (rule (eqb r 2 && not (flagOf 1 (v .frame .settled))) FirstRunOpen
+          (rule (leb d (deadline (v .frame .opening) r)) CloseTooEarly
+          (rule (flagOf r (v .frame .closed)) AlreadyClosed
+          (rule (eqb r 2 && not (flagOf 1 (v .frame .closed))) FirstRunOpen
           [])))));
+    }
+terms (issues r d) =
+    record {
+      opening = false;
+      takes = noStore;
+      quarters = λ m. m;
+      day = λ e. d;
+      asks = askingNothing;
+      rules = λ v n.
+          rule (not (isOpen (v .frame .opening))) NotOpen
+          (rule (not (runOk r && dayOk d)) BadField
+          (rule (ltb d (v .frame .day .0)) PastDay
+          (rule (not (flagOf r (v .frame .closed))) NotClosed
+          (rule (flagOf r (v .frame .issued)) AlreadyIssued
+          []))));
     }
 terms (lodges g d es) =
     record {

@@ -9,7 +9,7 @@ use Rattle.state.specs.Desk.{versionsIn}
 use Rattle.state.specs.Version.{held}
 use Rattle.state.specs.declared.Desk.{Desk}
 use Rattle.model.specs.Agreement.{fresh, replies, end, bookFigure}
-use Rattle.model.specs.Call.{Call, opens, activates, deactivates, submits, notices, assigns, shows, asks, settles, lodges, reports, Stores, lengthsOf, Lent, told}
+use Rattle.model.specs.Call.{Call, opens, activates, deactivates, submits, notices, assigns, shows, asks, closes, issues, lodges, reports, Stores, lengthsOf, Lent, told}
 use Rattle.model.specs.Log.{logNumbers, logged}
 use Rattle.model.specs.Plain.{plainReplies, plainEnd, versionsOf, logOf, figure}
 use Rattle.model.specs.Step.{Outcome, step}
@@ -29,7 +29,8 @@ asksStatus (notices p x y d) = false
 asksStatus (assigns a g d) = false
 asksStatus (shows r g) = false
 asksStatus (asks p x) = true
-asksStatus (settles r d) = false
+asksStatus (closes r d) = false
+asksStatus (issues r d) = false
 asksStatus (lodges g d es) = false
 asksStatus (reports r g) = false
 

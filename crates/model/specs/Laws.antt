@@ -1,7 +1,7 @@
 -- What both desks share, said in other words: a theorem of their agreement could not judge it.
 use Prim.Native.Nat.{ℕ, _+_, _-_, _*_, _≤_, _<_}
 use mathlib.Core.Path.{_≡_}
-use mathlib.Core.Bool.{true, false, cond}
+use mathlib.Core.Bool.{Bool, true, false, cond}
 use mathlib.Core.List.{List, [], _∷_, _++_}
 use mathlib.Core.Logic.{_⊎_}
 use lib.Dec.{eqb}
@@ -10,19 +10,23 @@ use lib.ListN.{length, getD}
 use Rattle.quantity.specs.Word.{word}
 use Rattle.state.specs.Point.{activePoint}
 use Rattle.state.specs.Selection.{own, selected, SameVersion, versionOf}
+use Rattle.state.specs.Settling.{Settles}
 use Rattle.state.specs.Status.{statusNumber, isCheck}
 use Rattle.state.specs.Version.{recordAt, restatus, isVersion}
 use Rattle.state.specs.declared.Runs.{Runs}
 use Rattle.state.specs.declared.Selection.{Selection}
 use Rattle.state.specs.declared.Selection.the-variants.{None, Selected}
 use Rattle.state.specs.declared.Status.{Status}
+use Rattle.state.specs.declared.Status.the-variants.{Check}
 use Rattle.state.specs.declared.VersionRecord.{VersionRecord}
 use Rattle.state.specs.declared.VersionRow.{VersionRow}
-use Rattle.model.specs.Call.{Call, opens, activates, deactivates, submits, notices, assigns, shows, asks, settles, lodges, reports, Lengths, Told}
+use Rattle.model.specs.Call.{Call, opens, activates, deactivates, submits, notices, assigns, shows, asks, closes, issues, lodges, reports, Lengths, Told, causeNumber}
 use Rattle.model.specs.Causes.{Rule}
 use Rattle.model.specs.Log.{logWords}
 use Rattle.model.specs.Plain.{Worked}
 use Rattle.model.specs.Series.{sidesOf, adds}
+use Rattle.model.specs.declared.Answer.{Answer}
+use Rattle.model.specs.declared.Answer.the-variants.{Refused}
 use Rattle.model.specs.declared.Cause.{Cause}
 use Rattle.model.specs.declared.LogRow.{LogRow}
 
@@ -77,13 +81,31 @@ pub record NoticeCounts (clearing point version day : ℕ) (vs ws : List Version
   pub early : day ≤ clearing → TakenUp 1 point version day vs ws log after
   pub late : clearing < day → TakenUp 2 point version day vs ws log after
 
--- what a status tells of its run: "each selected version gets 3", and run 2's own 5, where the run is settled; before that 2 and 4. Where run 2 has
--- none of its own it tells run 1's
-pub record TellsSettled (settled : Runs) (vs : List VersionRecord) : Type 0 where
-  pub first : settled .first ≡ true → (p : ℕ) (r : VersionRow) → selected 1 p vs ≡ Selected r → statusNumber (r .status) ≡ 3
-  pub firstOpen : settled .first ≡ false → (p : ℕ) (r : VersionRow) → selected 1 p vs ≡ Selected r → statusNumber (r .status) ≡ 2
-  pub second : settled .second ≡ true → (p : ℕ) (r : VersionRow) → selected 2 p vs ≡ Selected r → (statusNumber (r .status) ≡ 5) ⊎ (statusNumber (r .status) ≡ 3)
-  pub secondOpen : settled .second ≡ false → (p : ℕ) (r : VersionRow) → own 2 p vs ≡ Selected r → statusNumber (r .status) ≡ 4
+-- what a status tells of its run, document 02: "issue (sets status 3 or 5)". Where run 1 is issued its selection has 3, and where run 2 is its own has
+-- 5; before that 2 and 4, closed or not. Where run 2 has none of its own it tells run 1's
+pub record TellsIssued (issued : Runs) (vs : List VersionRecord) : Type 0 where
+  pub first : issued .first ≡ true → (p : ℕ) (r : VersionRow) → selected 1 p vs ≡ Selected r → statusNumber (r .status) ≡ 3
+  pub firstOpen : issued .first ≡ false → (p : ℕ) (r : VersionRow) → selected 1 p vs ≡ Selected r → statusNumber (r .status) ≡ 2
+  pub second : issued .second ≡ true → (p : ℕ) (r : VersionRow) → own 2 p vs ≡ Selected r → statusNumber (r .status) ≡ 5
+  pub secondOpen : issued .second ≡ false → (p : ℕ) (r : VersionRow) → own 2 p vs ≡ Selected r → statusNumber (r .status) ≡ 4
+
+-- a closed run goes on selecting the same version of every point, with perhaps another status
+pub record StaysClosed (closed : Runs) (vs ws : List VersionRecord) : Type 0 where
+  pub first : closed .first ≡ true → (p : ℕ) → SameVersion (selected 1 p ws) (selected 1 p vs)
+  pub second : closed .second ≡ true → (p : ℕ) → SameVersion (selected 2 p ws) (selected 2 p vs)
+
+-- an issue by what the run had of its own at its close: each of these versions gets the status `settled`, one that has not the number selected for its
+-- point then stays, and nothing but a status changes
+pub record IssuesClosed (run settled : ℕ) (closed vs ws : List VersionRecord) : Type 0 where
+  pub picked : (p : ℕ) (r : VersionRow) → own run p closed ≡ Selected r → statusNumber (recordAt ws (r .at) .status) ≡ settled
+  pub lower : (i : ℕ) → (recordAt vs i .version .0 ≡ versionOf (own run (recordAt vs i .point .0) closed) → ⊥) → recordAt ws i ≡ recordAt vs i
+  pub same : (i : ℕ) → restatus Check (recordAt ws i) ≡ restatus Check (recordAt vs i)
+
+-- "39, issue of a run already issued": refused with any day, and by that number with one from the desk's day to 400
+pub record IssuedAgain (before day : ℕ) (a : Answer) : Type 0 where
+  pub cause : Cause
+  pub refused : a ≡ Refused cause
+  pub number : before ≤ day → day ≤ 400 → causeNumber cause ≡ 39
 
 -- no other selection: the same row of the version table, by index and number
 abbrev pub SameRow : Selection → Selection → Type 0
@@ -156,6 +178,20 @@ pub record Delivers (point version day : ℕ) (energies : List ℤ) (before afte
   pub series : getD (after .energies) (length (before .energies)) [] ≡ energies
   pub earlier : (j : ℕ) → j < length (before .energies) → getD (after .energies) j [] ≡ getD (before .energies) j []
 
+-- document 02: "close (records that the run is closed)": the run's flag is set and not the other's; no status changes
+pub record Closes (flag other : Runs → Bool) (before after : Worked) : Type 0 where
+  pub closed : flag (after .closed) ≡ true
+  pub apart : other (after .closed) ≡ other (before .closed)
+  pub issued : after .issued ≡ before .issued
+  pub versions : after .versions ≡ before .versions
+
+-- "issue (sets status 3 or 5)": the other flag of the run is set and not the other run's; the versions selected are settled
+pub record Issues (flag other : Runs → Bool) (run status settled : ℕ) (before after : Worked) : Type 0 where
+  pub issued : flag (after .issued) ≡ true
+  pub apart : other (after .issued) ≡ other (before .issued)
+  pub closed : after .closed ≡ before .closed
+  pub settles : Settles run status settled (before .versions) (after .versions)
+
 -- one for a submission
 abbrev pub submissionBy : Call → ℕ
 submissionBy (opens q f c k gs) = 0
@@ -166,7 +202,8 @@ submissionBy (notices p x y d) = 0
 submissionBy (assigns a g d) = 0
 submissionBy (shows r g) = 0
 submissionBy (asks p x) = 0
-submissionBy (settles r d) = 0
+submissionBy (closes r d) = 0
+submissionBy (issues r d) = 0
 submissionBy (lodges g d es) = 0
 submissionBy (reports r g) = 0
 
@@ -191,6 +228,7 @@ dayBy (notices p x y d) e = d
 dayBy (assigns a g d) e = d
 dayBy (shows r g) e = e
 dayBy (asks p x) e = e
-dayBy (settles r d) e = d
+dayBy (closes r d) e = d
+dayBy (issues r d) e = d
 dayBy (lodges g d es) e = d
 dayBy (reports r g) e = e

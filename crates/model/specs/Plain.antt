@@ -18,7 +18,7 @@ use Rattle.state.specs.declared.Opening.{Opening}
 use Rattle.state.specs.declared.PointRecord.{PointRecord}
 use Rattle.state.specs.declared.Runs.{Runs}
 use Rattle.state.specs.declared.VersionRecord.{VersionRecord}
-use Rattle.model.specs.Call.{Call, opens, activates, deactivates, submits, notices, assigns, shows, asks, settles, lodges, reports, Lengths, Told, Reply}
+use Rattle.model.specs.Call.{Call, opens, activates, deactivates, submits, notices, assigns, shows, asks, closes, issues, lodges, reports, Lengths, Told, Reply}
 use Rattle.model.specs.Causes.{terms, openingBy, refusal}
 use Rattle.model.specs.Log.{due, addRow}
 use Rattle.model.specs.Series.{figureOf, outsideOf}
@@ -31,7 +31,7 @@ use Rattle.model.specs.declared.Ruling.{Ruling}
 use Rattle.model.specs.declared.Ruling.the-variants.{Fine, Refuse}
 
 -- what the plain desk works out: the opening, the day, the points, the delta groups, the versions, the energies of the submissions in their
--- order, the log rows, the runs settled, the schedules lodged
+-- order, the log rows, the runs closed, the runs issued, the schedules lodged
 pub record Worked : Type 0 where
   pub opening : Opening
   pub day : ℕ
@@ -40,16 +40,17 @@ pub record Worked : Type 0 where
   pub versions : List VersionRecord
   pub energies : List (List ℤ)
   pub log : List LogRow
-  pub settled : Runs
+  pub closed : Runs
+  pub issued : Runs
   pub schedules : List (List ℤ)
 
 -- the same of its parts
-abbrev pub worked : Opening → (day : ℕ) → List PointRecord → (groups : List ℕ) → List VersionRecord → List (List ℤ) → List LogRow → Runs → (schedules : List (List ℤ)) → Worked
-worked o d ps gs vs es l r ss = record { opening = o; day = d; points = ps; groups = gs; versions = vs; energies = es; log = l; settled = r; schedules = ss }
+abbrev pub worked : Opening → (day : ℕ) → List PointRecord → (groups : List ℕ) → List VersionRecord → List (List ℤ) → List LogRow → (closed issued : Runs) → (schedules : List (List ℤ)) → Worked
+worked o d ps gs vs es l c r ss = record { opening = o; day = d; points = ps; groups = gs; versions = vs; energies = es; log = l; closed = c; issued = r; schedules = ss }
 
 -- "one list, empty at first": no group has lodged
 abbrev pub nothingYet : Worked
-nothingYet = worked unopened 0 (replicate points freePoint) (replicate deltas 0) [] [] [] noRun (replicate groupCount [])
+nothingYet = worked unopened 0 (replicate points freePoint) (replicate deltas 0) [] [] [] noRun noRun (replicate groupCount [])
 
 -- what a call sets
 pub data Setting : Type 0 where
@@ -59,32 +60,34 @@ pub data Setting : Type 0 where
   allotted : (area group : ℕ) → Setting
   delivered : (point version : ℕ) (energies : List ℤ) → Setting
   judged : (point version verdict : ℕ) → Setting
-  settledIn : (run : ℕ) → Setting
+  closedIn : (run : ℕ) → Setting
+  issuedIn : (run : ℕ) → Setting
   lodged : (group : ℕ) (energies : List ℤ) → Setting
 
 -- "A call that changes run 1's selection or run 2's own adds one log row.": other versions of a point
 abbrev pub withVersions : (point : ℕ) → List VersionRecord → Worked → Worked
 withVersions p ws w =
-    worked (w .opening) (w .day) (w .points) (w .groups) ws (w .energies) (addRow (due (w .versions) ws p (w .day)) (w .log)) (w .settled) (w .schedules)
+    worked (w .opening) (w .day) (w .points) (w .groups) ws (w .energies) (addRow (due (w .versions) ws p (w .day)) (w .log)) (w .closed) (w .issued) (w .schedules)
 
 -- one submission's energies more
 abbrev pub withEnergies : List ℤ → Worked → Worked
-withEnergies es w = worked (w .opening) (w .day) (w .points) (w .groups) (w .versions) (w .energies ++ (es ∷ [])) (w .log) (w .settled) (w .schedules)
+withEnergies es w = worked (w .opening) (w .day) (w .points) (w .groups) (w .versions) (w .energies ++ (es ∷ [])) (w .log) (w .closed) (w .issued) (w .schedules)
 
 -- one setting more. "The opening gives Q, deadlines and store lengths." "A point is active from activation to deactivation." "A delta's group is
 -- the one set last." "Each submission makes a version that takes a row of values; its status comes from its day, then from later notices and
--- settles by the rules above." Document 02: a schedule "may be replaced"
+-- settles by the rules above." Document 02: "close (records that the run is closed) and issue (sets status 3 or 5)"; a schedule "may be replaced"
 abbrev pub setIn : Worked → Setting → Worked
-setIn w (opened o gs) = worked o (w .day) (w .points) gs (w .versions) (w .energies) (w .log) (w .settled) (w .schedules)
-setIn w (dated d) = worked (w .opening) d (w .points) (w .groups) (w .versions) (w .energies) (w .log) (w .settled) (w .schedules)
-setIn w (placed p r) = worked (w .opening) (w .day) (withPoint (w .points) p r) (w .groups) (w .versions) (w .energies) (w .log) (w .settled) (w .schedules)
-setIn w (allotted a g) = worked (w .opening) (w .day) (w .points) (set (w .groups) a g) (w .versions) (w .energies) (w .log) (w .settled) (w .schedules)
+setIn w (opened o gs) = worked o (w .day) (w .points) gs (w .versions) (w .energies) (w .log) (w .closed) (w .issued) (w .schedules)
+setIn w (dated d) = worked (w .opening) d (w .points) (w .groups) (w .versions) (w .energies) (w .log) (w .closed) (w .issued) (w .schedules)
+setIn w (placed p r) = worked (w .opening) (w .day) (withPoint (w .points) p r) (w .groups) (w .versions) (w .energies) (w .log) (w .closed) (w .issued) (w .schedules)
+setIn w (allotted a g) = worked (w .opening) (w .day) (w .points) (set (w .groups) a g) (w .versions) (w .energies) (w .log) (w .closed) (w .issued) (w .schedules)
 setIn w (delivered p x es) =
     withEnergies es (withVersions p (submitted (newVersion (w .opening .first .0) (length (w .versions)) p x (w .day)) (w .versions)) w)
 setIn w (judged p x y) = withVersions p (noticed (w .opening .clearing .0) p x y (w .day) (w .versions)) w
-setIn w (settledIn r) = worked (w .opening) (w .day) (w .points) (w .groups) (settledBy r (w .versions)) (w .energies) (w .log) (flagged r (w .settled)) (w .schedules)
+setIn w (closedIn r) = worked (w .opening) (w .day) (w .points) (w .groups) (w .versions) (w .energies) (w .log) (flagged r (w .closed)) (w .issued) (w .schedules)
+setIn w (issuedIn r) = worked (w .opening) (w .day) (w .points) (w .groups) (settledBy r (w .versions)) (w .energies) (w .log) (w .closed) (flagged r (w .issued)) (w .schedules)
 setIn w (lodged g es) =
-    worked (w .opening) (w .day) (w .points) (w .groups) (w .versions) (w .energies) (w .log) (w .settled) (set (w .schedules) (groupRow g) es)
+    worked (w .opening) (w .day) (w .points) (w .groups) (w .versions) (w .energies) (w .log) (w .closed) (w .issued) (set (w .schedules) (groupRow g) es)
 
 -- beside its day, one line a call
 abbrev pub sets : Told → List Setting
@@ -99,7 +102,8 @@ sets t = setsBy (t .lengths) (t .call)
     setsBy n (assigns a g d) = allotted a g ∷ []
     setsBy n (shows r g) = []
     setsBy n (asks p x) = []
-    setsBy n (settles r d) = settledIn r ∷ []
+    setsBy n (closes r d) = closedIn r ∷ []
+    setsBy n (issues r d) = issuedIn r ∷ []
     setsBy n (lodges g d es) = lodged g es ∷ []
     setsBy n (reports r g) = []
 
@@ -140,9 +144,13 @@ energiesOf h = workedOut h .energies
 abbrev pub logOf : List Told → List LogRow
 logOf h = workedOut h .log
 
--- its settled runs
-abbrev pub settledOf : List Told → Runs
-settledOf h = workedOut h .settled
+-- its closed runs
+abbrev pub closedOf : List Told → Runs
+closedOf h = workedOut h .closed
+
+-- its issued runs
+abbrev pub issuedOf : List Told → Runs
+issuedOf h = workedOut h .issued
 
 -- its schedules
 abbrev pub schedulesOf : List Told → List (List ℤ)
@@ -152,7 +160,7 @@ schedulesOf h = workedOut h .schedules
 abbrev pub viewBy : Worked → View
 viewBy w =
     record {
-      frame = frameOf (w .opening) (w .day) (w .groups) (length (w .versions)) (length (w .log)) (w .settled);
+      frame = frameOf (w .opening) (w .day) (w .groups) (length (w .versions)) (length (w .log)) (w .closed) (w .issued);
       points = w .points;
       versions = w .versions;
     }
@@ -209,7 +217,8 @@ granted h (notices p x y d) = plainly Accepted
 granted h (assigns a g d) = plainly Accepted
 granted h (shows r g) = record { answer = Accepted; row = tab (openingOf h .quarters) (λ (q : ℕ). figure h r (groupRow g) q); surplus = pos 0; shortfall = pos 0 }
 granted h (asks p x) = plainly (statusAnswer (held p x (versionsOf h)))
-granted h (settles r d) = plainly Accepted
+granted h (closes r d) = plainly Accepted
+granted h (issues r d) = plainly Accepted
 granted h (lodges g d es) = plainly Accepted
 granted h (reports r g) = record { answer = Accepted; row = []; surplus = monthly h (surplusAt h r g); shortfall = monthly h (shortfallAt h r g) }
 

@@ -13,7 +13,7 @@ use Rattle.book.specs.declared.Way.the-variants.{In, Out}
 use Rattle.deviation.specs.Month.{monthSurplus, monthShortfall}
 use Rattle.deviation.specs.Place.{scheduleStart}
 use Rattle.state.specs.Change.{submitted, noticed, submittedDesk, noticedDesk, settledDesk}
-use Rattle.state.specs.Desk.{openDesk, versionsIn, rowsUsed, deskWith, theDay, theGroups, theUsed, theSettled, thePoints, flagged}
+use Rattle.state.specs.Desk.{openDesk, versionsIn, rowsUsed, deskWith, theDay, theGroups, theUsed, theClosed, theIssued, thePoints, flagged}
 use Rattle.state.specs.Point.{freePoint, activePoint, pointAt, withPoint}
 use Rattle.state.specs.Selection.{orElse}
 use Rattle.state.specs.Valid.{validDesk}
@@ -24,7 +24,7 @@ use Rattle.state.specs.declared.Held.the-variants.{Absent, Has}
 use Rattle.state.specs.declared.Selection.{Selection}
 use Rattle.state.specs.declared.Selection.the-variants.{None, Selected}
 use Rattle.state.specs.declared.VersionRecord.{VersionRecord}
-use Rattle.model.specs.Call.{Call, opens, activates, deactivates, submits, notices, assigns, shows, asks, settles, lodges, reports, Stores, Lent, Told, lengthsOf, told, Reply}
+use Rattle.model.specs.Call.{Call, opens, activates, deactivates, submits, notices, assigns, shows, asks, closes, issues, lodges, reports, Stores, Lent, Told, lengthsOf, told, Reply}
 use Rattle.model.specs.Causes.{Rule, terms, rules, rule, firstOf, openingBy}
 use Rattle.model.specs.Log.{differ, turnOf, due, logged, usedAfter}
 use Rattle.model.specs.Series.{sidesOf}
@@ -164,7 +164,8 @@ granting d s (shows r g) =
       stores = s;
     }
 granting d s (asks p x) = answering (statusAnswer (held p x (versionsIn d))) d s
-granting d s (settles r day) = accept (deskWith (deskWith (settledDesk d r) (theSettled (flagged r (d .frame .settled)))) (theDay day)) s
+granting d s (closes r day) = accept (deskWith (deskWith d (theClosed (flagged r (d .frame .closed)))) (theDay day)) s
+granting d s (issues r day) = accept (deskWith (deskWith (settledDesk d r) (theIssued (flagged r (d .frame .issued)))) (theDay day)) s
 granting d s (lodges g day es) =
     accept (deskWith d (theDay day)) (withSchedules s (splice (s .schedules) (scheduleStart (d .frame .opening .quarters) g) (d .frame .opening .quarters) (map word es)))
 granting d s (reports r g) =

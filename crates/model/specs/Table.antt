@@ -18,8 +18,9 @@ use Rattle.state.specs.declared.Desk.{Desk}
 use Rattle.state.specs.declared.Frame.{Frame}
 use Rattle.state.specs.declared.PointState.the-variants.{Active}
 use Rattle.state.specs.declared.PointRecord.{PointRecord}
+use Rattle.state.specs.declared.Runs.{Runs}
 use Rattle.state.specs.declared.VersionRecord.{VersionRecord}
-use Rattle.model.specs.Call.{Call, opens, activates, deactivates, submits, notices, assigns, shows, asks, settles, lodges, reports, Lengths, causeNumber}
+use Rattle.model.specs.Call.{Call, opens, activates, deactivates, submits, notices, assigns, shows, asks, closes, issues, lodges, reports, Lengths, causeNumber}
 use Rattle.model.specs.View.{View, viewOf}
 use Rattle.model.specs.declared.Answer.{Answer}
 use Rattle.model.specs.declared.Answer.the-variants.{Refused}
@@ -35,9 +36,9 @@ abbrev pub numbersIn : Table → List ℕ
 numbersIn end = []
 numbersIn (line m P t) = m ∷ numbersIn t
 
--- "Checks go down the table": all its numbers, from top to bottom; document 02: "37, .. checked after 24 and before 25"
+-- "Checks go down the table": all its numbers, from top to bottom; document 02: "37, .. checked after 24 and before 25", "38, .. after 5; 39, .. after 38"
 abbrev pub order : List ℕ
-order = 1 ∷ 2 ∷ 3 ∷ 6 ∷ 4 ∷ 5 ∷ 11 ∷ 26 ∷ 21 ∷ 22 ∷ 12 ∷ 23 ∷ 13 ∷ 14 ∷ 15 ∷ 24 ∷ 37 ∷ 25 ∷ 16 ∷ 17 ∷ 27 ∷ 28 ∷ 29 ∷ []
+order = 1 ∷ 2 ∷ 3 ∷ 6 ∷ 4 ∷ 5 ∷ 11 ∷ 26 ∷ 21 ∷ 22 ∷ 12 ∷ 23 ∷ 13 ∷ 14 ∷ 15 ∷ 24 ∷ 37 ∷ 25 ∷ 16 ∷ 17 ∷ 27 ∷ 28 ∷ 29 ∷ 38 ∷ 39 ∷ []
 
 -- those of a list that stand in another, in the order of the first
 abbrev pub among : (l other : List ℕ) → List ℕ
@@ -96,6 +97,14 @@ BelowHighest vs p x = Among emptyVersion (λ (v : VersionRecord). (v .point .0 �
 -- "none is left": a row has four numbers
 abbrev pub NoneLeft : Frame → Type 0
 NoneLeft f = f .opening .log < 4 * (f .used + 1)
+
+-- the run's flag is set: "already closed", "already issued"
+abbrev pub Set : (run : ℕ) → Runs → Type 0
+Set r s = ((r ≡ 1) × (s .first ≡ true)) ⊎ ((r ≡ 2) × (s .second ≡ true))
+
+-- it is not: "not closed"
+abbrev pub Unset : (run : ℕ) → Runs → Type 0
+Unset r s = ((r ≡ 1) × (s .first ≡ false)) ⊎ ((r ≡ 2) × (s .second ≡ false))
 
 -- ---- the table
 
@@ -209,14 +218,21 @@ module _ (v : View) (n : Lengths) where
       (line 12 (ActiveAt (v .points) p → ⊥)
       (line 24 (Present (v .versions) p x → ⊥)
       end)))
-  table (settles r d) =
+  table (closes r d) =
       line 1 Unopened
       (line 3 (((r ≡ 1) ⊎ (r ≡ 2)) × (d ≤ 400) → ⊥)
       (line 5 (d < v .frame .day .0)
       (line 27 (((r ≡ 1) × (d ≤ v .frame .opening .clearing .0)) ⊎ ((r ≡ 2) × (d ≤ v .frame .opening .correction .0)))
-      (line 28 (((r ≡ 1) × (v .frame .settled .first ≡ true)) ⊎ ((r ≡ 2) × (v .frame .settled .second ≡ true)))
-      (line 29 ((r ≡ 2) × (v .frame .settled .first ≡ false))
+      (line 28 (Set r (v .frame .closed))
+      (line 29 ((r ≡ 2) × (v .frame .closed .first ≡ false))
       end)))))
+  table (issues r d) =
+      line 1 Unopened
+      (line 3 (((r ≡ 1) ⊎ (r ≡ 2)) × (d ≤ 400) → ⊥)
+      (line 5 (d < v .frame .day .0)
+      (line 38 (Unset r (v .frame .closed))
+      (line 39 (Set r (v .frame .issued))
+      end))))
   table (lodges g d es) =
       line 1 Unopened
       (line 2 OtherSchedules
@@ -240,7 +256,8 @@ allButOpen (notices p x y d) P t = line 1 P t
 allButOpen (assigns a g d) P t = line 1 P t
 allButOpen (shows r g) P t = line 1 P t
 allButOpen (asks p x) P t = line 1 P t
-allButOpen (settles r d) P t = line 1 P t
+allButOpen (closes r d) P t = line 1 P t
+allButOpen (issues r d) P t = line 1 P t
 allButOpen (lodges g d es) P t = line 1 P t
 allButOpen (reports r g) P t = line 1 P t
 

@@ -49,11 +49,15 @@ pub enum Cause {
     // 17
     NoLogRow,
     // 27
-    SettleTooEarly,
+    CloseTooEarly,
     // 28
-    AlreadySettled,
+    AlreadyClosed,
     // 29
     FirstRunOpen,
+    // 38
+    NotClosed,
+    // 39
+    AlreadyIssued,
 }
 
 // The answer of a call. An accepted status is a case of its own.

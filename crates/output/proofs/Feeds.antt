@@ -21,7 +21,7 @@ use Rattle.state.specs.Valid.{openingOk}
 use Rattle.state.specs.Walk.{walk}
 use Rattle.state.specs.declared.Selection.{Selection}
 use Rattle.state.specs.declared.Selection.the-variants.{None, Selected}
-use Rattle.model.specs.Call.{Call, opens, activates, deactivates, submits, notices, assigns, shows, asks, settles, lodges, reports, Lengths, Told, answerNumber}
+use Rattle.model.specs.Call.{Call, opens, activates, deactivates, submits, notices, assigns, shows, asks, closes, issues, lodges, reports, Lengths, Told, answerNumber}
 use Rattle.model.specs.Causes.{openingBy, opensOk, orIf, firstOf, rules, refusal}
 use Rattle.model.specs.Plain.{openingOf, pointsOf, versionsOf, energiesOf, viewIn, outside, answered, joined, plainReply, plainNext, plainEnd, workedOut, after}
 use Rattle.model.specs.Series.{energy, isOutside, outsideOf}
@@ -82,7 +82,8 @@ few-next h (notices x v y d) p e = p
 few-next h (assigns a g d) p e = p
 few-next h (shows r g) p e = p
 few-next h (asks x v) p e = p
-few-next h (settles r d) p e = p
+few-next h (closes r d) p e = p
+few-next h (issues r d) p e = p
 few-next h (lodges g d es) p e = p
 few-next h (reports r g) p e = p
 
@@ -123,7 +124,8 @@ fit-next n h (notices x v y d) p e = p
 fit-next n h (assigns a g d) p e = p
 fit-next n h (shows r g) p e = p
 fit-next n h (asks x v) p e = p
-fit-next n h (settles r d) p e = p
+fit-next n h (closes r d) p e = p
+fit-next n h (issues r d) p e = p
 fit-next n h (lodges g d es) p e = p
 fit-next n h (reports r g) p e = p
 
@@ -171,7 +173,8 @@ bare-next h (notices x v y d) p e = λ z. opened h (passed (rules (viewIn h) _ (
 bare-next h (assigns a g d) p e = p
 bare-next h (shows r g) p e = p
 bare-next h (asks x v) p e = p
-bare-next h (settles r d) p e = λ z. opened h (passed (rules (viewIn h) (toldAs lent h (settles r d) .lengths) (settles r d)) e .0) z
+bare-next h (closes r d) p e = λ z. opened h (passed (rules (viewIn h) (toldAs lent h (closes r d) .lengths) (closes r d)) e .0) z
+bare-next h (issues r d) p e = λ z. opened h (passed (rules (viewIn h) (toldAs lent h (issues r d) .lengths) (issues r d)) e .0) z
 bare-next h (lodges g d es) p e = p
 bare-next h (reports r g) p e = p
 

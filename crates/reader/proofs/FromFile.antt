@@ -16,7 +16,7 @@ use Rattle.message.specs.Read.{got}
 use Rattle.message.specs.Call.{Sent, Carried, submission, mostFields, isKind, fieldsOf, print, parse}
 use Rattle.message.specs.Named.{callOf, groupsOf}
 use Rattle.message.specs.declared.DeskCall.{DeskCall}
-use Rattle.message.specs.declared.DeskCall.the-variants.{Open, Activate, Deactivate, Submit, Notice, Assign, Settle}
+use Rattle.message.specs.declared.DeskCall.the-variants.{Open, Activate, Deactivate, Submit, Notice, Assign, Close, Issue}
 use Rattle.message.specs.declared.Named.the-variants.{Known}
 use Rattle.reader.specs.Reader.{padded, readAt}
 use Rattle.reader.specs.declared.Step.the-variants.{Call}
@@ -54,7 +54,8 @@ Fit numbers = all fitsNumber numbers ≡ true
 abbrev pub nothing : List ℕ
 nothing = replicate deltas 0
 
--- "A call is its kind, then fields in the order above: 1 open, 2 activate, 3 deactivate, 4 submit (with a count before the energies), 5 notice, 6 assign, 7 settle"
+-- "A call is its kind, then fields in the order above: 1 open, 2 activate, 3 deactivate, 4 submit (with a count before the energies), 5 notice, 6 assign";
+-- document 02: "kind 7 is close, kind 8 issue, both with run and day"
 pub record FromFile (room : ℕ) : Type 0 where
   -- "Open: Q, F, C, K, 17 delta groups"
   pub opening : (q f c k : ℕ) (groups : List ℕ) → length groups ≡ 17 → Fit (q ∷ f ∷ c ∷ k ∷ groups) →
@@ -72,8 +73,10 @@ pub record FromFile (room : ℕ) : Type 0 where
       Reads room (5 ∷ point ∷ version ∷ verdict ∷ day ∷ []) (Notice (record { 0 = point }) (record { 0 = version }) verdict (record { 0 = day })) 0 nothing
   -- "Assign: area (0 for T), group, day."
   pub assignment : (area group day : ℕ) → Fit (area ∷ group ∷ day ∷ []) → Reads room (6 ∷ area ∷ group ∷ day ∷ []) (Assign area group (record { 0 = day })) 0 nothing
-  -- "Settle: run, day."
-  pub settlement : (run day : ℕ) → Fit (run ∷ day ∷ []) → Reads room (7 ∷ run ∷ day ∷ []) (Settle run (record { 0 = day })) 0 nothing
+  -- "an older file's settle is read as close"
+  pub closing : (run day : ℕ) → Fit (run ∷ day ∷ []) → Reads room (7 ∷ run ∷ day ∷ []) (Close run (record { 0 = day })) 0 nothing
+  -- "byte 8 no longer meets 33"
+  pub issuing : (run day : ℕ) → Fit (run ∷ day ∷ []) → Reads room (8 ∷ run ∷ day ∷ []) (Issue run (record { 0 = day })) 0 nothing
 
 pub from-file : (room : ℕ) → FromFile room
 from-file room =
@@ -84,7 +87,8 @@ from-file room =
       submission = submitted;
       noticing = λ point version verdict day h. read-plain room 5 (point ∷ version ∷ verdict ∷ day ∷ []) _ refl refl refl h (field-names .noticing _ _ _ _ _);
       assignment = λ area group day h. read-plain room 6 (area ∷ group ∷ day ∷ []) _ refl refl refl h (field-names .assignment _ _ _ _);
-      settlement = λ run day h. read-plain room 7 (run ∷ day ∷ []) _ refl refl refl h (field-names .settlement _ _ _);
+      closing = λ run day h. read-plain room 7 (run ∷ day ∷ []) _ refl refl refl h (field-names .closing _ _ _);
+      issuing = λ run day h. read-plain room 8 (run ∷ day ∷ []) _ refl refl refl h (field-names .issuing _ _ _);
     }
   where
     opened : (q f c k : ℕ) (groups : List ℕ) → length groups ≡ 17 → Fit (q ∷ f ∷ c ∷ k ∷ groups) →

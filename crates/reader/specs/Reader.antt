@@ -32,7 +32,7 @@ fieldsRead n (refused x) = record { passed = NotPassed x; fields = replicate mos
 abbrev pub without : Step → Reading
 without s = record { step = s; groups = replicate deltas 0 }
 
--- a call by its name, with how many energies and the offset behind it; "call kind not 1..7 33"
+-- a call by its name, with how many energies and the offset behind it; "call kind not 1..7 33" (document 02: "byte 8 no longer meets 33")
 abbrev pub readAs : (at : ℕ) → Named → (groups : List ℕ) (count next : ℕ) → Reading
 readAs at (Known d) groups n next = record { step = Call d n next; groups = groups }
 readAs at Unknown groups n next = without (Refused BadKind at)

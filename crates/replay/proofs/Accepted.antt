@@ -14,7 +14,7 @@ use Rattle.state.specs.Desk.{versionsIn}
 use Rattle.state.specs.declared.Desk.{Desk}
 use Rattle.state.specs.declared.Opening.{Opening}
 use Rattle.model.specs.Agreement.{Own, left}
-use Rattle.model.specs.Call.{Call, opens, activates, deactivates, submits, notices, assigns, shows, asks, settles, lodges, reports, Taken, Stores, lengthsOf, Told, telling}
+use Rattle.model.specs.Call.{Call, opens, activates, deactivates, submits, notices, assigns, shows, asks, closes, issues, lodges, reports, Taken, Stores, lengthsOf, Told, telling}
 use Rattle.model.specs.Causes.{takes, rules}
 use Rattle.model.specs.Laws.{Passed}
 use Rattle.model.specs.Log.{due, logged, usedAfter}
@@ -123,6 +123,7 @@ module _ (d : Desk) (s : Stores) (h : List Told) (H : Holds d s h) where
       }
   left-by (shows r g) z P = still (shows r g) refl refl refl refl refl
   left-by (asks p x) z P = still (asks p x) refl refl refl refl refl
-  left-by (settles r e) z P = still (settles r e) refl refl refl refl refl
+  left-by (closes r e) z P = still (closes r e) refl refl refl refl refl
+  left-by (issues r e) z P = still (issues r e) refl refl refl refl refl
   left-by (lodges g e es) z P = absurd (true≢false z)
   left-by (reports r g) z P = absurd (true≢false z)

@@ -7,7 +7,7 @@ use lib.IntN.{ℤ}
 use Rattle.quantity.specs.Limits.{bookRows, scheduleRows}
 use Rattle.quantity.specs.Lists.{fold}
 use Rattle.message.specs.declared.DeskCall.{DeskCall}
-use Rattle.message.specs.declared.DeskCall.the-variants.{Open, Activate, Deactivate, Submit, Notice, Assign, Settle}
+use Rattle.message.specs.declared.DeskCall.the-variants.{Open, Activate, Deactivate, Submit, Notice, Assign, Close, Issue}
 use Rattle.state.specs.Desk.{freshDesk}
 use Rattle.state.specs.Valid.{openingOk, frameOk, validDesk}
 use Rattle.model.specs.Agreement.{Running, fresh}
@@ -43,7 +43,8 @@ kind (Deactivate p e) gs es = later (λ n. refl) refl (λ n. refl) (λ n. refl)
 kind (Submit p x e) gs es = later (λ n. refl) refl (λ n. refl) (λ n. refl)
 kind (Notice p x y e) gs es = later (λ n. refl) refl (λ n. refl) (λ n. refl)
 kind (Assign a g e) gs es = later (λ n. refl) refl (λ n. refl) (λ n. refl)
-kind (Settle r e) gs es = later (λ n. refl) refl (λ n. refl) (λ n. refl)
+kind (Close r e) gs es = later (λ n. refl) refl (λ n. refl) (λ n. refl)
+kind (Issue r e) gs es = later (λ n. refl) refl (λ n. refl) (λ n. refl)
 
 -- ---- refused, and accepted
 

@@ -58,7 +58,7 @@ abbrev pub over : (new old : List ℕ) → List ℕ
 over new old = new ++ drop (length new) old
 
 -- a desk that holds what the plain desk works out from its list h of accepted calls: opening, day, delta groups, points, versions with their
--- statuses and how many there are, log rows used, settled runs
+-- statuses and how many there are, log rows used, closed and issued runs
 pub record Holding (h : List Told) (d : Desk) : Type 0 where
   pub view : viewOf d ≡ viewIn h
 

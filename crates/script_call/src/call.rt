@@ -1,4 +1,4 @@
-// One of the eleven calls on a desk, from its record and with the stores that are lent to it.
+// One of the twelve calls on a desk, from its record and with the stores that are lent to it.
 use crate::Ran;
 use crate::record::LODGE;
 use crate::record::LODGED;

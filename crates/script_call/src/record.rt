@@ -1,34 +1,38 @@
 // A record of a script: its number, the four lengths of the stores that are lent to it, its own numbers.
 use message::call::ASSIGNMENT;
+use message::call::CLOSING;
+use message::call::ISSUING;
 use message::call::MOST_FIELDS;
-use message::call::SETTLEMENT;
 use writer::fields::field_at;
 use writer::fields::pad_fields;
 ghost use Prim.Native.Nat.{_≤_};
 ghost use lib.ListN.{length};
 
-// Records by their numbers: the nine calls by document 01's, the two of document 02, and what somebody else does to the state and to a store.
+// Records by their numbers: the nine calls by document 01's, of which settle is close, the three of document 02, and what somebody else does to the
+// state and to a store.
 const SUBMIT: u64 = 4;
 
 pub const SHOW: u64 = 7;
 
 pub const STATUS: u64 = 8;
 
-const SETTLE: u64 = 9;
+const CLOSE: u64 = 9;
 
 pub const LODGE: u64 = 10;
 
 pub const REPORT: u64 = 11;
 
-pub const DAMAGE: u64 = 12;
+const ISSUE: u64 = 12;
 
-pub const WRITE: u64 = 13;
+pub const DAMAGE: u64 = 13;
+
+pub const WRITE: u64 = 14;
 
 // Where a record's own numbers begin.
 const OWN: usize = 5;
 
 // How many numbers a record has, from number 0 on, the energies of a submission or a lodging apart.
-const SIZES: [usize; 14] = [0, 26, 10, 7, SUBMITTED, 9, 8, 7, 7, 7, LODGED, 7, 11, 8];
+const SIZES: [usize; 15] = [0, 26, 10, 7, SUBMITTED, 9, 8, 7, 7, 7, LODGED, 7, 7, 11, 8];
 
 // Where a submission's energies begin; their count stands before them.
 pub const SUBMITTED: usize = 9;
@@ -91,8 +95,11 @@ pub fn kind_in_file(op: u64) -> u64 {
     if op <= ASSIGNMENT {
         return op;
     }
-    if op == SETTLE {
-        return SETTLEMENT;
+    if op == CLOSE {
+        return CLOSING;
+    }
+    if op == ISSUE {
+        return ISSUING;
     }
     0
 }

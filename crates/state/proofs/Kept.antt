@@ -1,4 +1,4 @@
--- Laws of what calls make of the versions: which selections stay, what exactly a notice and a settle change, and that the desk's table and the
+-- Laws of what calls make of the versions: which selections stay, what exactly a notice and settling change, and that the desk's table and the
 -- list of the versions held change alike. Assumes nothing.
 use Prim.Native.Nat.{ℕ, _≤_, _<_}
 use mathlib.Core.Path.{_≡_, refl, sym, ap, _∙_, subst}
@@ -83,7 +83,7 @@ notice-other run q c p x y d vs ne = go (held p x vs) (held-right p x vs)
         (λ _. best-set (isCounted run q) vs i (restatus (confirmedStatus c d) v) (rw (k .here, off)) (rw off))
         (λ _. refl)
 
--- ---- a settle
+-- ---- settling
 
 -- 2 and 3 count alike, and so do 4 and 5
 settled-counts : (run r : ℕ) (s : Status) → counts r s ≡ true → counts run (settledStatus r) ≡ counts run s

@@ -1,4 +1,4 @@
--- Statuses by their numbers: what a submission, a notice and a settle give. Assumes nothing.
+-- Statuses by their numbers: what a submission, a notice and settling give. Assumes nothing.
 use Prim.Native.Nat.{ℕ, _≤_, _<_}
 use mathlib.Core.Path.{_≡_, refl, sym, ap, _∙_}
 use mathlib.Core.Bool.{_&&_, _||_, and-false}

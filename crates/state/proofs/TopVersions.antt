@@ -1,12 +1,11 @@
--- Laws of the table of highest versions that a settle gathers: nothing yet, one record more. Assumes nothing.
-use Prim.Native.Nat.{ℕ, zero, suc, _+_, _-_, _≤_, _<_}
+-- Laws of the table of highest versions that settling gathers: nothing yet, one record more. Assumes nothing.
+use Prim.Native.Nat.{ℕ, _+_, _-_, _≤_, _<_}
 use mathlib.Core.Path.{_≡_, refl, sym, ap, _∙_}
-use mathlib.Core.Bool.{Bool, true, false, cond}
+use mathlib.Core.Bool.{true}
 use mathlib.Core.List.{List}
 use native.Mathlib.Decide.{ℕ-discrete}
 use native.Mathlib.Omega.{arith}
-use borrow.Author.Tests.{eq-eqb, ne-eqb, lt-ltb}
-use lib.Dec.{ltb}
+use borrow.Author.Tests.{eq-eqb, ne-eqb}
 use lib.ListN.{length, take, getD, set, replicate, length-set, getD-replicate, length-replicate}
 use lib.Seq.{getD-take, getD-set-same, getD-set-other, length-take-le}
 use Rattle.quantity.proofs.Lists.{all-in, all-mono}
@@ -19,13 +18,12 @@ use Rattle.state.specs.Change.{settleBy, settle}
 use Rattle.state.specs.Desk.{rowsIn, versionsIn}
 use Rattle.state.specs.Valid.{versionRecordOk, Sound}
 use Rattle.state.specs.declared.Desk.{Desk}
-use Rattle.state.specs.Selection.{rowAt, raise, raiseIf, best, noVersion, higherOf, isCounted, own, versionOf}
+use Rattle.state.specs.Selection.{raiseIf, best, noVersion, higherOf, isCounted, own, versionOf}
 use Rattle.state.specs.Settling.{PointsIn, Tops}
 use Rattle.state.specs.Status.{counts}
 use Rattle.state.specs.Version.{emptyVersion}
 use Rattle.state.specs.Walk.{walk}
-use Rattle.state.specs.declared.Selection.{Selection}
-use Rattle.state.specs.declared.Selection.the-variants.{None, Selected}
+use Rattle.state.specs.declared.Selection.the-variants.{None}
 use Rattle.state.specs.declared.VersionRecord.{VersionRecord}
 
 -- every version held by a valid desk is of a point that there is

@@ -31,7 +31,8 @@ noticed c p x y d vs = confirm c y d (held p x vs) vs
 abbrev pub settleBy : (run top : ℕ) → VersionRecord → VersionRecord
 settleBy run top v = cond (counts run (v .status) && eqb (v .version .0) top) (restatus (settledStatus run) v) v
 
--- "Run 1: each selected version gets 3. Run 2: each own one gets 5.": `top` is the highest version of the record's point that counts
+-- "Run 1: each selected version gets 3. Run 2: each own one gets 5."; document 02: "issue (sets status 3 or 5)": `top` is the highest version of the
+-- record's point that counts
 unfoldable pub settle : (run : ℕ) → List VersionRecord → VersionRecord → VersionRecord
 settle run vs v = settleBy run (versionOf (own run (v .point .0) vs)) v
 

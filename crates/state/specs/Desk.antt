@@ -15,16 +15,16 @@ use Rattle.state.specs.declared.Runs.{Runs}
 use Rattle.state.specs.declared.VersionRecord.{VersionRecord}
 
 -- what stands beside the tables, of its parts
-abbrev pub frameOf : Opening → (day : ℕ) (groups : List ℕ) (count used : ℕ) → Runs → Frame
-frameOf o day gs n m s = record { opening = o; day = record { 0 = day }; groups = gs; count = n; used = m; settled = s }
+abbrev pub frameOf : Opening → (day : ℕ) (groups : List ℕ) (count used : ℕ) (closed issued : Runs) → Frame
+frameOf o day gs n m c s = record { opening = o; day = record { 0 = day }; groups = gs; count = n; used = m; closed = c; issued = s }
 
--- no run is settled
+-- no run is closed, and none is issued
 abbrev pub noRun : Runs
 noRun = record { first = false; second = false }
 
 -- "no versions, no log rows used"; "The desk's day is 0 at opening."
 abbrev pub openFrame : Opening → (groups : List ℕ) → Frame
-openFrame o gs = frameOf o 0 gs 0 0 noRun
+openFrame o gs = frameOf o 0 gs 0 0 noRun noRun
 
 -- "all points free, no versions, no log rows used"
 abbrev pub openDesk : Opening → (groups : List ℕ) → Desk
@@ -75,7 +75,8 @@ pub data Thing : Type 0 where
   theDay : (day : ℕ) → Thing
   theGroups : List ℕ → Thing
   theUsed : (used : ℕ) → Thing
-  theSettled : Runs → Thing
+  theClosed : Runs → Thing
+  theIssued : Runs → Thing
   thePoints : List PointRecord → Thing
   theVersions : (count : ℕ) → List VersionRecord → Thing
 
@@ -85,14 +86,15 @@ withFrame d f = record { frame = f; points = d .points; versions = d .versions }
 
 -- the desk with that thing, all else as it was
 abbrev pub deskWith : Desk → Thing → Desk
-deskWith d (theDay n) = withFrame d (frameOf (d .frame .opening) n (d .frame .groups) (d .frame .count) (d .frame .used) (d .frame .settled))
-deskWith d (theGroups gs) = withFrame d (frameOf (d .frame .opening) (d .frame .day .0) gs (d .frame .count) (d .frame .used) (d .frame .settled))
-deskWith d (theUsed n) = withFrame d (frameOf (d .frame .opening) (d .frame .day .0) (d .frame .groups) (d .frame .count) n (d .frame .settled))
-deskWith d (theSettled s) = withFrame d (frameOf (d .frame .opening) (d .frame .day .0) (d .frame .groups) (d .frame .count) (d .frame .used) s)
+deskWith d (theDay n) = withFrame d (frameOf (d .frame .opening) n (d .frame .groups) (d .frame .count) (d .frame .used) (d .frame .closed) (d .frame .issued))
+deskWith d (theGroups gs) = withFrame d (frameOf (d .frame .opening) (d .frame .day .0) gs (d .frame .count) (d .frame .used) (d .frame .closed) (d .frame .issued))
+deskWith d (theUsed n) = withFrame d (frameOf (d .frame .opening) (d .frame .day .0) (d .frame .groups) (d .frame .count) n (d .frame .closed) (d .frame .issued))
+deskWith d (theClosed c) = withFrame d (frameOf (d .frame .opening) (d .frame .day .0) (d .frame .groups) (d .frame .count) (d .frame .used) c (d .frame .issued))
+deskWith d (theIssued s) = withFrame d (frameOf (d .frame .opening) (d .frame .day .0) (d .frame .groups) (d .frame .count) (d .frame .used) (d .frame .closed) s)
 deskWith d (thePoints ps) = record { frame = d .frame; points = ps; versions = d .versions }
 deskWith d (theVersions n vs) =
     record {
-      frame = frameOf (d .frame .opening) (d .frame .day .0) (d .frame .groups) n (d .frame .used) (d .frame .settled);
+      frame = frameOf (d .frame .opening) (d .frame .day .0) (d .frame .groups) n (d .frame .used) (d .frame .closed) (d .frame .issued);
       points = d .points;
       versions = vs;
     }

@@ -1,4 +1,4 @@
--- A settle: what it is in the numbers of the statuses, and what its two passes hand over.
+-- Settling: what it is in the numbers of the statuses, and what its two passes hand over.
 use Prim.Native.Nat.{ℕ, _-_}
 use mathlib.Core.Path.{_≡_}
 use mathlib.Core.Bool.{true}
@@ -15,9 +15,9 @@ use Rattle.state.specs.declared.Status.the-variants.{Check}
 use Rattle.state.specs.declared.VersionRecord.{VersionRecord}
 use Rattle.state.specs.declared.VersionRow.{VersionRow}
 
--- "Run 1: each selected version gets 3. Run 2: each own one gets 5.": the selected ones get the status `settled`, and the lookup tells it; one of
--- neither status that the run counts (`status` and `settled`) stays, and so does one that has not the number selected for its point; nothing but a
--- status changes
+-- "Run 1: each selected version gets 3. Run 2: each own one gets 5."; document 02: "issue (sets status 3 or 5)". The selected ones get the status
+-- `settled`, and the lookup tells it; one of neither status that the run counts (`status` and `settled`) stays, and so does one that has not the
+-- number selected for its point; nothing but a status changes
 pub record Settles (run status settled : ℕ) (vs ws : List VersionRecord) : Type 0 where
   pub size : length ws ≡ length vs
   pub picked : (p : ℕ) (r : VersionRow) → own run p vs ≡ Selected r → statusNumber (recordAt ws (r .at) .status) ≡ settled

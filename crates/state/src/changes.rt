@@ -27,7 +27,7 @@ ghost use Prim.Native.Nat.{_<_};
 ghost use lib.ListN.{set};
 ghost use Rattle.quantity.specs.Limits.{versions, deltas, dayOk, pointOk};
 ghost use Rattle.state.specs.Change.{settledDesk};
-ghost use Rattle.state.specs.Desk.{isOpen, openDesk, deskWith, theDay, theGroups, theUsed, theSettled, thePoints, theVersions, flagged};
+ghost use Rattle.state.specs.Desk.{isOpen, openDesk, deskWith, theDay, theGroups, theUsed, theClosed, theIssued, thePoints, theVersions, flagged};
 ghost use Rattle.state.specs.Point.{activePoint, withPoint, seriesOk};
 ghost use Rattle.state.specs.Valid.{validDesk};
 ghost use Rattle.state.specs.Version.{newVersion, restatus};
@@ -101,17 +101,35 @@ pub fn put_day(f: Frame, day: Day) -> Effect
     unchanged(frame)
 }
 
-// The run's flag is set, and its versions are settled.
-pub fn settle_run(f: Frame, run: u64, day: Day) -> Effect
-    ensures { λ r. ⌜ ((d : Desk) → d .frame ≡ f → validDesk d ≡ true → Fits d r × (changedBy d r ≡ deskWith (deskWith (settledDesk d run) (theSettled (flagged run (d .frame .settled)))) (theDay (day .0)))) ⌝ }
+// The flags with that of a run set.
+pub fn with_flag(flags: Runs, run: u64) -> Runs
+    ensures { λ r. ⌜ r ≡ flagged run flags ⌝ }
 {
-    let flags = Runs {
-        first: (run == 1) | f.settled.first,
-        second: (run == 2) | f.settled.second,
-    };
+    Runs {
+        first: (run == 1) | flags.first,
+        second: (run == 2) | flags.second,
+    }
+}
+
+// The run is closed; no version changes.
+pub fn close_run(f: Frame, run: u64, day: Day) -> Effect
+    ensures { λ r. ⌜ ((d : Desk) → d .frame ≡ f → Fits d r × (changedBy d r ≡ deskWith (deskWith d (theClosed (flagged run (d .frame .closed)))) (theDay (day .0)))) ⌝ }
+{
+    let flags = f.closed;
+    let mut frame = f;
+    frame.closed = with_flag(flags, run);
+    frame.day = day;
+    unchanged(frame)
+}
+
+// The run is issued, and its versions are settled.
+pub fn issue_run(f: Frame, run: u64, day: Day) -> Effect
+    ensures { λ r. ⌜ ((d : Desk) → d .frame ≡ f → validDesk d ≡ true → Fits d r × (changedBy d r ≡ deskWith (deskWith (settledDesk d run) (theIssued (flagged run (d .frame .issued)))) (theDay (day .0)))) ⌝ }
+{
+    let flags = f.issued;
     let tables = Tables::Settled { run };
     let mut frame = f;
-    frame.settled = flags;
+    frame.issued = with_flag(flags, run);
     frame.day = day;
     Effect { tables, frame }
 }

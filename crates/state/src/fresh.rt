@@ -21,16 +21,18 @@ ghost use Rattle.state.specs.Desk.{openFrame, openDesk, freshDesk};
 pub fn open_frame(opening: Opening, groups: [u64; DELTAS as usize]) -> Frame
     ensures { λ r. ⌜ r ≡ openFrame opening groups ⌝ }
 {
+    let none = Runs {
+        first: false,
+        second: false,
+    };
     Frame {
         opening,
         day: Day(0),
         groups,
         count: 0,
         used: 0,
-        settled: Runs {
-            first: false,
-            second: false,
-        },
+        closed: none,
+        issued: none,
     }
 }
 

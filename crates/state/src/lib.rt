@@ -1,5 +1,5 @@
 // The desk's state: its points, its versions, what the opening fixed. It goes into a call by value and comes back. What a call makes of it is an
-// effect: at most one record of a table and what stands beside the tables; a settle goes over the whole version table.
+// effect: at most one record of a table and what stands beside the tables; an issue goes over the whole version table.
 // The fields of the two tables are narrow, since the state is copied; a number from outside is tested before it is narrowed.
 pub mod changes;
 pub mod effects;
@@ -82,14 +82,15 @@ pub struct Runs {
 }
 
 // What stands beside the two tables: what the opening fixed, the day, the delta groups of T and of areas 1 to 16, how many versions are held,
-// how many rows of the log are used, and the runs settled.
+// how many rows of the log are used, the runs closed and the runs issued.
 pub struct Frame {
     pub opening: Opening,
     pub day: Day,
     pub groups: [u64; DELTAS as usize],
     pub count: u64,
     pub used: u64,
-    pub settled: Runs,
+    pub closed: Runs,
+    pub issued: Runs,
 }
 
 // The first `count` records of `versions` are the versions held, in the order of their submission; what stands past them is unused.

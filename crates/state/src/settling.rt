@@ -1,4 +1,4 @@
-// Settle over the whole version table, in two passes: the highest version that counts for each point, then exactly those restated.
+// Settling over the whole version table, in two passes: the highest version that counts for each point, then exactly those restated.
 use crate::VersionRecord;
 use crate::changes::restated;
 use crate::selections::higher;

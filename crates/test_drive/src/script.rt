@@ -1,4 +1,4 @@
-// A script of the eleven calls on a fresh desk, each with its own lengths of the stores; damage to the desk's fields, and writing in a store.
+// A script of the twelve calls on a fresh desk, each with its own lengths of the stores; damage to the desk's fields, and writing in a store.
 use crate::Room;
 use damage::damaged;
 use script_call::Ran;

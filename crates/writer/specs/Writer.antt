@@ -31,7 +31,8 @@ sized fits l = cond fits (Bytes (length (encodeAll l))) NotSized
 abbrev pub notWritten : FileCause → Written
 notWritten x = Refused x 0
 
--- the writer's answer: "call kind not 1..7 33", "(writer) a field ≥ 2^63 or an energy outside -2^62..2^62-1 34", "writer: output too short 35"
+-- the writer's answer: "call kind not 1..7 33" (document 02: "byte 8 no longer meets 33"), "(writer) a field ≥ 2^63 or an energy outside -2^62..2^62-1 34",
+-- "writer: output too short 35"
 abbrev pub writtenIn : (room : ℕ) → Sent → Written
 writtenIn room c =
     cond (isKind (c .kind))

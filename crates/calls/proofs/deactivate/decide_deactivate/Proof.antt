@@ -4,8 +4,7 @@ use borrow.Author.Tests.{not-false}
 use Rattle.quantity.specs.Limits.{pointOk}
 use Rattle.quantity.proofs.Tests.{and-left}
 use Rattle.state.specs.Desk.{withFrame}
-use Rattle.model.specs.Call.{lengthsOf}
-use Rattle.checks.proofs.Deciding.{allowed, noLengths, unmoved, answer-refused, answer-granted}
+use Rattle.checks.proofs.Deciding.{allowed, noLengths, decides-refused, decides-granted}
 use borrow.Author.Needs.{needs}
 use Rattle.calls.proofs.deactivate.decide_deactivate.Statement.{statement}
 use Rattle.calls.proofs.deactivate.decide_deactivate.Tie as tie
@@ -32,18 +31,12 @@ accept-requires : tie.Need-accept-requires
 accept-requires c κs = search needs
 
 returns : tie.Need-returns
-returns c e k =
-    let u = unmoved (withFrame e (c .before .before .before .before .before .args .frame)) (c .refuse .ensures) in
-    (u .0, λ s. answer-refused _ _ s (c .before .before .before .before .deactivate-ruling .ensures e k (lengthsOf s)) (c .before .before .v .given .1) (u .1))
+returns c e k = decides-refused _ _ (c .before .before .before .before .deactivate-ruling .ensures e k) (c .before .before .v .given .1) (c .refuse .ensures)
 
 returns-2 : tie.Need-returns-2
 returns-2 c e k =
-    let a = c .accept .ensures in
-    let p = c .before .put-point .ensures (withFrame e (c .before .before .before .before .before .args .frame)) refl in (
-      rw (a .1) (p .0),
-      λ s. answer-granted _ _ s (c .before .before .before .before .deactivate-ruling .ensures e k (lengthsOf s)) (c .before .before .enum-told .given .1)
-          (record { answered = a .0; held = rw (a .1) (p .1) }),
-    )
+    let d = withFrame e (c .before .before .before .before .before .args .frame) in
+    decides-granted d _ (c .before .before .before .before .deactivate-ruling .ensures e k) (c .before .before .enum-told .given .1) (c .accept .ensures) (c .before .put-point .ensures d refl) (λ s. refl)
 
 pub decide-deactivate-spec : {M : Type 1} → statement M
 decide-deactivate-spec =

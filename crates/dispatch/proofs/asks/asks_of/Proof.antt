@@ -46,6 +46,12 @@ enum-told-3 c = search needs
 asking-nothing-requires-3 : tie.Need-asking-nothing-requires-3
 asking-nothing-requires-3 c κs = search needs
 
+enum-told-4 : tie.Need-enum-told-4
+enum-told-4 c = search needs
+
+asking-nothing-requires-4 : tie.Need-asking-nothing-requires-4
+asking-nothing-requires-4 c κs = search needs
+
 returns : tie.Need-returns
 unfolding asked
 returns c gs es = rw (c .before .enum-told .given .1) (c .asking-nothing .ensures)
@@ -74,6 +80,10 @@ returns-7 : tie.Need-returns-7
 unfolding asked
 returns-7 c gs es = rw (c .before .enum-told3 .given .1) (c .asking-nothing3 .ensures)
 
+returns-8 : tie.Need-returns-8
+unfolding asked
+returns-8 c gs es = rw (c .before .enum-told4 .given .1) (c .asking-nothing4 .ensures)
+
 pub asks-of-spec : {M : Type 1} → statement M
 asks-of-spec =
     tie.close
@@ -92,10 +102,13 @@ asks-of-spec =
     asking-nothing-requires-2
     enum-told-3
     asking-nothing-requires-3
+    enum-told-4
+    asking-nothing-requires-4
     returns
     returns-2
     returns-3
     returns-4
     returns-5
     returns-6
-    returns-7)
+    returns-7
+    returns-8)

@@ -25,6 +25,9 @@ enum-told-5 c = search needs
 enum-told-6 : tie.Need-enum-told-6
 enum-told-6 c = search needs
 
+enum-told-7 : tie.Need-enum-told-7
+enum-told-7 c = search needs
+
 returns : tie.Need-returns
 unfolding asked
 returns c gs es = rw (c .before .call .given .1)
@@ -53,6 +56,10 @@ returns-7 : tie.Need-returns-7
 unfolding asked
 returns-7 c gs es = rw (c .enum-told6 .given .1)
 
+returns-8 : tie.Need-returns-8
+unfolding asked
+returns-8 c gs es = rw (c .enum-told7 .given .1)
+
 pub quarters-of-spec : {M : Type 1} → statement M
 quarters-of-spec =
     tie.close
@@ -64,10 +71,12 @@ quarters-of-spec =
     enum-told-4
     enum-told-5
     enum-told-6
+    enum-told-7
     returns
     returns-2
     returns-3
     returns-4
     returns-5
     returns-6
-    returns-7)
+    returns-7
+    returns-8)

@@ -56,8 +56,14 @@ decide-assign-requires c κs = let s = c .before .before .before .before .before
 enum-known-call-7 : tie.Need-enum-known-call-7
 enum-known-call-7 c = search needs
 
-decide-settle-requires : tie.Need-decide-settle-requires
-decide-settle-requires c κs = search needs
+decide-close-requires : tie.Need-decide-close-requires
+decide-close-requires c κs = search needs
+
+enum-known-call-8 : tie.Need-enum-known-call-8
+enum-known-call-8 c = search needs
+
+decide-issue-requires : tie.Need-decide-issue-requires
+decide-issue-requires c κs = search needs
 
 same-length : tie.Need-same-length
 same-length c = search needs
@@ -132,8 +138,14 @@ returns-6 c d k =
 returns-7 : tie.Need-returns-7
 unfolding asked
 returns-7 c d k =
-    let e = c .decide-settle .ensures d (rw (c .before .before .call7 .given .1) at k) in
+    let e = c .decide-close .ensures d (rw (c .before .before .call7 .given .1) at k) in
     rw (c .before .before .call7 .given .1) (e .0, unplanned _ _ _ refl (none-taken _ _ _ refl (e .1 _)))
+
+returns-8 : tie.Need-returns-8
+unfolding asked
+returns-8 c d k =
+    let e = c .decide-issue .ensures d (rw (c .before .before .call8 .given .1) at k) in
+    rw (c .before .before .call8 .given .1) (e .0, unplanned _ _ _ refl (none-taken _ _ _ refl (e .1 _)))
 
 pub decide-spec : {M : Type 1} → statement M
 decide-spec =
@@ -152,7 +164,9 @@ decide-spec =
     enum-known-call-6
     decide-assign-requires
     enum-known-call-7
-    decide-settle-requires
+    decide-close-requires
+    enum-known-call-8
+    decide-issue-requires
     same-length
     same-length-2
     same-length-3
@@ -170,4 +184,5 @@ decide-spec =
     returns-5
     same-length-11
     returns-6
-    returns-7)
+    returns-7
+    returns-8)

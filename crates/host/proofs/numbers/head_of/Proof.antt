@@ -26,6 +26,9 @@ enum-known-call-6 c = search needs
 enum-known-call-7 : tie.Need-enum-known-call-7
 enum-known-call-7 c = search needs
 
+enum-known-call-8 : tie.Need-enum-known-call-8
+enum-known-call-8 c = search needs
+
 returns : tie.Need-returns
 returns c = sym (ap headOf (c .before .call .given .1))
 
@@ -47,6 +50,9 @@ returns-6 c = sym (ap headOf (c .before .call6 .given .1))
 returns-7 : tie.Need-returns-7
 returns-7 c = sym (ap headOf (c .before .call7 .given .1))
 
+returns-8 : tie.Need-returns-8
+returns-8 c = sym (ap headOf (c .before .call8 .given .1))
+
 pub head-of-spec : {M : Type 1} → statement M
 head-of-spec =
     tie.close
@@ -58,10 +64,12 @@ head-of-spec =
     enum-known-call-5
     enum-known-call-6
     enum-known-call-7
+    enum-known-call-8
     returns
     returns-2
     returns-3
     returns-4
     returns-5
     returns-6
-    returns-7)
+    returns-7
+    returns-8)

@@ -11,6 +11,12 @@ flag-number-requires c κs = search needs
 flag-number-requires-2 : tie.Need-flag-number-requires-2
 flag-number-requires-2 c κs = search needs
 
+flag-number-requires-3 : tie.Need-flag-number-requires-3
+flag-number-requires-3 c κs = search needs
+
+flag-number-requires-4 : tie.Need-flag-number-requires-4
+flag-number-requires-4 c κs = search needs
+
 slice-aggregate-put-row : tie.Need-slice-aggregate-put-row
 slice-aggregate-put-row c = search needs
 
@@ -22,7 +28,9 @@ same-length c = search needs
 
 returns : tie.Need-returns
 unfolding splice
-returns c = c .before .before .put-row .ensures ∙ rw (c .before .before .before .before .before .before .flag-number .ensures, c .before .before .before .before .before .flag-number2 .ensures)
+returns c =
+    let f = c .before .before .before .before .before in
+    c .before .before .put-row .ensures ∙ rw (f .before .before .before .flag-number .ensures, f .before .before .flag-number2 .ensures, f .before .flag-number3 .ensures, f .flag-number4 .ensures)
 
 pub put-summary-spec : {M : Type 1} → statement M
 put-summary-spec =
@@ -30,6 +38,8 @@ put-summary-spec =
     (tie.spec
     flag-number-requires
     flag-number-requires-2
+    flag-number-requires-3
+    flag-number-requires-4
     slice-aggregate-put-row
     put-row-requires
     same-length

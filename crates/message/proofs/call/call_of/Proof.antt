@@ -28,12 +28,16 @@ returns-2 : tie.Need-returns-2
 unfolding callOf
 returns-2 c = rw (ne-eqb _ 1 (c .before .if1 .left), eq-eqb _ 2 (c .if2 .taken))
 
+returns-3 : tie.Need-returns-3
+unfolding callOf
+returns-3 c = rw (ne-eqb _ 1 (c .before .before .if1 .left), ne-eqb _ 2 (c .before .if2 .left), eq-eqb _ 3 (c .if3 .taken))
+
 later-call-of-requires : tie.Need-later-call-of-requires
 later-call-of-requires c κs = search needs
 
-returns-3 : tie.Need-returns-3
+returns-4 : tie.Need-returns-4
 unfolding callOf
-returns-3 c = rw (ne-eqb _ 1 (c .before .before .if1 .left), ne-eqb _ 2 (c .before .if2 .left)) (c .later-call-of .ensures)
+returns-4 c = rw (ne-eqb _ 1 (c .before .before .before .if1 .left), ne-eqb _ 2 (c .before .before .if2 .left), ne-eqb _ 3 (c .before .if3 .left)) (c .later-call-of .ensures)
 
 pub call-of-spec : {M : Type 1} → statement M
 call-of-spec =
@@ -46,5 +50,6 @@ call-of-spec =
     returns
     array-read-t25
     returns-2
+    returns-3
     later-call-of-requires
-    returns-3)
+    returns-4)
