@@ -324,15 +324,18 @@ end-append h (t ∷ l) m = end-append (plainNext h t) l m
 
 -- ---- from a fresh desk on
 
--- before any call nothing is issued
+-- before any call nothing is closed, and nothing issued
+pub unclosed : {h : List Told} (run : ℕ) → h ≡ [] → flagOf run (closedOf h) ≡ true → ⊥
+unfolding workedOut
+unclosed run z e = unflagged run (rw z at e)
+
 pub unissued : {h : List Told} (run : ℕ) → h ≡ [] → flagOf run (issuedOf h) ≡ true → ⊥
 unfolding workedOut
 unissued run z e = unflagged run (rw z at e)
 
 -- a closed run lies past its deadline
 closed-late : (h : List Told) → Plain h → (run : ℕ) → Run run → flagOf run (closedOf h) ≡ true → Late run h
-unfolding workedOut
-closed-late h (empty z) run R e = absurd (unflagged run (rw z at e))
+closed-late h (empty z) run R e = absurd (unclosed run z e)
 closed-late h (opened O) run R e = O .past run R e
 
 -- past the correction deadline the clearing deadline is past too

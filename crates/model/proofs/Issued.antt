@@ -1,4 +1,5 @@
--- Issue: it restates what was selected at the close, its statuses stay, and no run is issued twice. Assumes nothing.
+-- Close and issue: how they stand to the deadlines; an issue restates what was selected at the close, its statuses stay, and no run is issued twice.
+-- Assumes nothing.
 use Prim.Native.Nat.{ℕ, _≤_}
 use mathlib.Core.Path.{_≡_, refl, sym, ap, _∙_}
 use mathlib.Core.Bool.{Bool, true, false, not, _&&_, false≢true}
@@ -22,21 +23,47 @@ use Rattle.state.proofs.Settled.{settles-first, settles-second}
 use Rattle.model.specs.Agreement.{Chained, end, fresh}
 use Rattle.model.specs.Call.{issues, Stores, Lengths, Lent, Told, told, telling, causeNumber, Reply}
 use Rattle.model.specs.Causes.{rules, refusal}
-use Rattle.model.specs.Laws.{Decides, here, below, IssuesClosed, IssuedAgain}
-use Rattle.model.specs.Plain.{dayOf, versionsOf, closedOf, issuedOf, viewIn, answered, plainReply, plainEnd, workedOut, after}
+use Rattle.model.specs.Laws.{Decides, here, below, ActsInOrder, IssuesClosed, IssuedAgain}
+use Rattle.model.specs.Plain.{openingOf, dayOf, versionsOf, closedOf, issuedOf, viewIn, answered, plainReply, plainEnd, workedOut, after}
 use Rattle.model.specs.Step.{step}
 use Rattle.model.specs.Table.{Set}
 use Rattle.model.specs.declared.Answer.the-variants.{Accepted}
 use Rattle.model.specs.declared.Cause.the-variants.{AlreadyIssued}
 use Rattle.model.specs.declared.Ruling.{Ruling}
 use Rattle.model.specs.declared.Ruling.the-variants.{Fine, Refuse}
-use Rattle.model.proofs.Closed.{Opened, Plain, empty, opened, is-open, unissued, follows, closed-own, same-flags}
+use Rattle.model.proofs.Closed.{Opened, Plain, empty, opened, is-open, unclosed, unissued, on-end, follows, closed-own, same-flags}
 use Rattle.model.proofs.Corollaries.{reached}
 use Rattle.model.proofs.Demands.{chained-front}
 use Rattle.model.proofs.Flags.{Run}
 use Rattle.model.proofs.Main.{agree}
 use Rattle.model.proofs.Newest.{last-reply, accepted-joins}
 use Rattle.model.proofs.Rules.{passed, decides-first}
+
+-- ---- the acts and the deadlines
+
+-- of the plain desk's list
+pub acts-plain : (l : List Told) → let h = plainEnd [] l in ActsInOrder (openingOf h .clearing .0) (openingOf h .correction .0) (dayOf h) (closedOf h) (issuedOf h)
+acts-plain l = go (on-end [] l (empty refl) .plain)
+  where
+    h : List Told
+    h = plainEnd [] l
+
+    go : Plain h → ActsInOrder (openingOf h .clearing .0) (openingOf h .correction .0) (dayOf h) (closedOf h) (issuedOf h)
+    go (empty z) =
+        record {
+          first = λ e. absurd (unclosed 1 z e);
+          second = λ e. absurd (unclosed 2 z e);
+          firstIssued = λ e. absurd (unissued 1 z e);
+          secondIssued = λ e. absurd (unissued 2 z e);
+        }
+    go (opened O) = record { first = O .past 1 (inl refl); second = O .past 2 (inr refl); firstIssued = O .shut 1 (inl refl); secondIssued = O .shut 2 (inr refl) }
+
+-- and of the running desk
+pub acts-running : (s : Stores) (l : List Lent) → Chained (fresh s) l
+    → let f = end (fresh s) l .desk .frame in ActsInOrder (f .opening .clearing .0) (f .opening .correction .0) (f .day .0) (f .closed) (f .issued)
+acts-running s l c =
+    let F = same-flags (end (fresh s) l) (plainEnd [] (map told l)) (reached s l c) in
+    rw (agree s l c .opening, F .day, F .closed, F .issued) (acts-plain (map told l))
 
 -- ---- what is restated
 

@@ -89,6 +89,13 @@ pub record TellsIssued (issued : Runs) (vs : List VersionRecord) : Type 0 where
   pub second : issued .second ≡ true → (p : ℕ) (r : VersionRow) → own 2 p vs ≡ Selected r → statusNumber (r .status) ≡ 5
   pub secondOpen : issued .second ≡ false → (p : ℕ) (r : VersionRow) → own 2 p vs ≡ Selected r → statusNumber (r .status) ≡ 4
 
+-- how both acts stand to the deadlines: a closed run lies behind its own, since 27 is "day ≤ C (run 1) or ≤ K (run 2)", and an issued one is closed
+pub record ActsInOrder (clearing correction day : ℕ) (closed issued : Runs) : Type 0 where
+  pub first : closed .first ≡ true → clearing < day
+  pub second : closed .second ≡ true → correction < day
+  pub firstIssued : issued .first ≡ true → closed .first ≡ true
+  pub secondIssued : issued .second ≡ true → closed .second ≡ true
+
 -- a closed run goes on selecting the same version of every point, with perhaps another status
 pub record StaysClosed (closed : Runs) (vs ws : List VersionRecord) : Type 0 where
   pub first : closed .first ≡ true → (p : ℕ) → SameVersion (selected 1 p ws) (selected 1 p vs)
