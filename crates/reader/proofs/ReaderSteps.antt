@@ -29,11 +29,11 @@ use Rattle.message.proofs.SeriesSteps.{SeriesPost}
 
 -- what follows the fields of a kind
 module _ (s : List ℕ) (at room k : ℕ) where
-  pub tail-series : (series₀ : List ℕ) {r : NumberRead} {series : List ℕ} → k ≡ submission → SeriesPost s (seriesIn room (drop at s)) series₀ r series →
+  tail-series : (series₀ : List ℕ) {r : NumberRead} {series : List ℕ} → k ≡ submission → SeriesPost s (seriesIn room (drop at s)) series₀ r series →
       SeriesPost s (tailIn room k (drop at s)) series₀ r series
   tail-series series₀ e p = rw (eq-eqb k submission e) p
 
-  pub tail-none : (series₀ : List ℕ) → at ≤ length s → (k ≡ submission → ⊥) → SeriesPost s (tailIn room k (drop at s)) series₀ (Number 0 at) series₀
+  tail-none : (series₀ : List ℕ) → at ≤ length s → (k ≡ submission → ⊥) → SeriesPost s (tailIn room k (drop at s)) series₀ (Number 0 at) series₀
   tail-none series₀ h n = rw (ne-eqb k submission n, offset-is s at h) (refl, refl)
 
 -- fields
@@ -77,13 +77,13 @@ module _ (s : List ℕ) (at «from» room k : ℕ) (known : isKind k ≡ true) {
   kind-fields e = rw (known, sym count, e)
 
   module _ {f : FieldsRead} {after : ℕ} (w : Fields s «from» m f after) where
-    pub kind-tail : {x : FileCause} (series₀ : List ℕ) {series : List ℕ} {r : Reading} → numberOf length (length s) (tailIn room k (drop after s)) ≡ NoNumber x →
+    kind-tail : {x : FileCause} (series₀ : List ℕ) {series : List ℕ} {r : Reading} → numberOf length (length s) (tailIn room k (drop after s)) ≡ NoNumber x →
         series ≡ filled (listOf (tailIn room k (drop after s))) series₀ → r ≡ without (Refused x at) → CallPost s at (kindIn room k (drop «from» s)) series₀ r series
     kind-tail series₀ e q p =
         let t = number-not (length s) (tailIn room k (drop after s)) length e in
         rw (known, sym count, w .is, t) (p, q ∙ rw t)
 
-    pub kind-ok : {v n : ℕ} (series₀ : List ℕ) {series : List ℕ} → numberOf length (length s) (tailIn room k (drop after s)) ≡ Number v n →
+    kind-ok : {v n : ℕ} (series₀ : List ℕ) {series : List ℕ} → numberOf length (length s) (tailIn room k (drop after s)) ≡ Number v n →
         series ≡ filled (listOf (tailIn room k (drop after s))) series₀ →
         {r : Reading} → r ≡ readAs at (callOf k (f .fields)) (groupsOf (f .fields)) v n → CallPost s at (kindIn room k (drop «from» s)) series₀ r series
     kind-ok {v} {n} series₀ {series} e q {r} p = go (tailIn room k (drop after s)) refl e q
@@ -95,6 +95,26 @@ module _ (s : List ℕ) (at «from» room k : ℕ) (known : isKind k ≡ true) {
             let b : n ≡ length s - length l = cc in
             rw (known, sym count, w .is, t) (p ∙ rw (w .padding, a, b), q)
         go (refused x) t e q = absurd (let z : _≡_ {A = ℕ} 0 1 = cc in omega arith)
+
+    -- of a call without energies
+    pub kind-alone : (series₀ : List ℕ) → (k ≡ submission → ⊥) → {r : Reading} → r ≡ readAs at (callOf k (f .fields)) (groupsOf (f .fields)) 0 after →
+        CallPost s at (kindIn room k (drop «from» s)) series₀ r series₀
+    kind-alone series₀ n p =
+        let t = tail-none s after room k series₀ (w .within) n in
+        kind-ok series₀ (sym (t .0)) (t .1) p
+
+    -- of a submission
+    module _ (series₀ : List ℕ) (e : k ≡ submission) {d : NumberRead} {series : List ℕ} (p : SeriesPost s (seriesIn room (drop after s)) series₀ d series) where
+      pub kind-cut : {x : FileCause} → d ≡ NoNumber x → {r : Reading} → r ≡ without (Refused x at) → CallPost s at (kindIn room k (drop «from» s)) series₀ r series
+      kind-cut q a =
+          let t = tail-series s after room k series₀ e p in
+          kind-tail series₀ (sym (t .0) ∙ q) (t .1) a
+
+      pub kind-series : {v n : ℕ} → d ≡ Number v n → {r : Reading} → r ≡ readAs at (callOf k (f .fields)) (groupsOf (f .fields)) v n →
+          CallPost s at (kindIn room k (drop «from» s)) series₀ r series
+      kind-series q a =
+          let t = tail-series s after room k series₀ e p in
+          kind-ok series₀ (sym (t .0) ∙ q) (t .1) a
 
 -- the call at an offset
 abbrev pub AtPost : List ℕ → ℕ → List ℕ → Reading → List ℕ → Type 0

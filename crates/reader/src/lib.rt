@@ -13,10 +13,9 @@ ghost use mathlib.Core.Path.{_≡_};
 ghost use Prim.Native.Nat.{_≤_};
 ghost use lib.ListN.{length, drop};
 ghost use Rattle.message.specs.Number.{numbersIn};
-ghost use Rattle.message.specs.Call.{mostFields, tailIn, kindIn};
+ghost use Rattle.message.specs.Call.{mostFields, kindIn};
 ghost use Rattle.message.specs.Named.{callOf, groupsOf};
-ghost use Rattle.message.specs.Offset.{numberOf};
-ghost use Rattle.message.specs.Series.{listOf, filled};
+ghost use Rattle.message.specs.Series.{filled};
 ghost use Rattle.reader.specs.Reader.{fieldsRead, without, readAs, readingOf, readAt, energiesOf, seriesAfter};
 
 // Fields that were passed, with 0 behind them.
@@ -77,18 +76,6 @@ fn read_fields(file: &[u8], at: usize, n: usize) -> FieldsRead
     }
 }
 
-// What follows the fields of a kind.
-fn read_tail(file: &[u8], at: usize, kind: u64, series: &mut [u64]) -> NumberRead
-    requires { ⌜ at ≤ length (now file) ⌝ }
-    ensures { λ r. ⌜ (r ≡ numberOf length (length (now (file .entry))) (tailIn (length (now (series .entry))) kind (drop at (now (file .entry)))))
-        × (now (series .exit) ≡ filled (listOf (tailIn (length (now (series .entry))) kind (drop at (now (file .entry))))) (now (series .entry))) ⌝ }
-{
-    if kind == call::SUBMISSION {
-        return series::read_series(file, at, series);
-    }
-    NumberRead::Number { value: 0, next: at }
-}
-
 fn refused(cause: FileCause, at: usize) -> Reading
     ensures { λ r. ⌜ r ≡ without (Step.Refused cause at) ⌝ }
 {
@@ -111,7 +98,7 @@ fn read_as(at: usize, kind: u64, fields: [u64; MOST_FIELDS], count: usize, next:
     }
 }
 
-// The call at `at`, whose kind was read and whose fields begin at `from`.
+// The call at `at`, whose kind was read and whose fields begin at `from`. Only a submission has energies behind them.
 fn read_kind(file: &[u8], at: usize, kind: u64, from: usize, series: &mut [u64]) -> Reading
     requires { ⌜ from ≤ length (now file) ⌝ }
     ensures { λ r. ⌜ (r ≡ readingOf (length (now (file .entry))) at (kindIn (length (now (series .entry))) kind (drop from (now (file .entry)))))
@@ -124,10 +111,17 @@ fn read_kind(file: &[u8], at: usize, kind: u64, from: usize, series: &mut [u64])
     let passed = read.passed;
     let fields = read.fields;
     match passed {
-        Passed::To(after) => match read_tail(file, after, kind, series) {
-            NumberRead::Number { value, next } => read_as(at, kind, fields, value as usize, next),
-            NumberRead::Refused(cause) => refused(cause, at),
-        },
+        Passed::To(after) => {
+            if kind != call::SUBMISSION {
+                return read_as(at, kind, fields, 0, after);
+            }
+            match series::read_series(file, after, series) {
+                NumberRead::Number { value, next } => {
+                    read_as(at, kind, fields, value as usize, next)
+                }
+                NumberRead::Refused(cause) => refused(cause, at),
+            }
+        }
         Passed::Refused(cause) => refused(cause, at),
     }
 }

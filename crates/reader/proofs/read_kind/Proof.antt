@@ -5,7 +5,7 @@ use native.Mathlib.Omega.{arith}
 use lib.ListN.{length}
 use borrow.Author.Tests.{not-true, not-false}
 use Rattle.message.proofs.Calls.{fields-few}
-use Rattle.reader.proofs.ReaderSteps.{fields-to, fields-not, call-refused, kind-33, kind-fields, kind-tail, kind-ok}
+use Rattle.reader.proofs.ReaderSteps.{fields-to, fields-not, call-refused, kind-33, kind-fields, kind-alone, kind-cut, kind-series}
 use Rattle.reader.proofs.read_kind.Statement.{statement}
 use Rattle.reader.proofs.read_kind.Tie as tie
 
@@ -27,14 +27,23 @@ read-fields-requires c κs = (c .before .before .before .before .before .pre, om
 enum-known-passed : tie.Need-enum-known-passed
 enum-known-passed c = search needs
 
-read-tail-requires : tie.Need-read-tail-requires
-read-tail-requires c κs = fields-to (c .before .before .before .before .before .before .before .before .before .before .before .args .file .now) (c .before .before .before .before .before .before .before .before .before .before .before .args .from) _ (c .before .before .before .before .before .read-fields .result) (c .before .before .before .before .before .read-fields .ensures) (c .before .before .before .before .before .before .before .before .before .before .before .pre) (c .before .before .passed .given .1) .within
+read-as-requires : tie.Need-read-as-requires
+read-as-requires c κs = search needs
+
+returns-2 : tie.Need-returns-2
+returns-2 c =
+    kind-alone (c .before .before .before .before .before .before .before .before .before .before .before .before .args .file .now) (c .before .before .before .before .before .before .before .before .before .before .before .before .args .at) (c .before .before .before .before .before .before .before .before .before .before .before .before .args .from) (length (c .before .before .before .before .before .before .before .before .before .before .before .before .args .series .now)) (c .before .before .before .before .before .before .before .before .before .before .before .before .args .kind) (sym (c .before .before .before .before .before .before .before .before .before .kind-ok .ensures) ∙ not-false _ (c .before .before .before .before .before .before .before .before .if1 .left)) (c .before .before .before .before .before .before .before .fields-of .ensures)
+    (fields-to (c .before .before .before .before .before .before .before .before .before .before .before .before .args .file .now) (c .before .before .before .before .before .before .before .before .before .before .before .before .args .from) _ (c .before .before .before .before .before .before .read-fields .result) (c .before .before .before .before .before .before .read-fields .ensures) (c .before .before .before .before .before .before .before .before .before .before .before .before .pre) (c .before .before .before .passed .given .1))
+    (c .before .before .before .before .before .before .before .before .before .before .before .before .args .series .now) (c .before .if2 .taken) (c .read-as .ensures)
+
+read-series-requires : tie.Need-read-series-requires
+read-series-requires c κs = search needs
 
 enum-known-value : tie.Need-enum-known-value
 enum-known-value c = search needs
 
-read-as-requires : tie.Need-read-as-requires
-read-as-requires c κs = search needs
+read-as-requires-2 : tie.Need-read-as-requires-2
+read-as-requires-2 c κs = search needs
 
 enum-known-cause : tie.Need-enum-known-cause
 enum-known-cause c = search needs
@@ -51,23 +60,23 @@ refused-requires-3 c κs = search needs
 same-length : tie.Need-same-length
 same-length c = search needs
 
-returns-2 : tie.Need-returns-2
-returns-2 c =
-    kind-ok (c .before .before .before .before .before .before .before .before .before .before .before .before .before .before .before .before .before .before .args .file .now) (c .before .before .before .before .before .before .before .before .before .before .before .before .before .before .before .before .before .before .args .at) (c .before .before .before .before .before .before .before .before .before .before .before .before .before .before .before .before .before .before .args .from) (length (c .before .before .before .before .before .before .before .before .before .before .before .before .before .before .before .before .before .before .args .series .now)) (c .before .before .before .before .before .before .before .before .before .before .before .before .before .before .before .before .before .before .args .kind) (sym (c .before .before .before .before .before .before .before .before .before .before .before .before .before .before .before .kind-ok .ensures) ∙ not-false _ (c .before .before .before .before .before .before .before .before .before .before .before .before .before .before .if1 .left)) (c .before .before .before .before .before .before .before .before .before .before .before .before .before .fields-of .ensures)
-    (fields-to (c .before .before .before .before .before .before .before .before .before .before .before .before .before .before .before .before .before .before .args .file .now) (c .before .before .before .before .before .before .before .before .before .before .before .before .before .before .before .before .before .before .args .from) _ (c .before .before .before .before .before .before .before .before .before .before .before .before .read-fields .result) (c .before .before .before .before .before .before .before .before .before .before .before .before .read-fields .ensures) (c .before .before .before .before .before .before .before .before .before .before .before .before .before .before .before .before .before .before .pre) (c .before .before .before .before .before .before .before .before .before .passed .given .1))
-    (c .before .before .before .before .before .before .before .before .before .before .before .before .before .before .before .before .before .before .args .series .now) (sym (c .before .before .before .before .before .before .read-tail .ensures .0) ∙ c .before .before .value .given .1) (c .before .before .before .before .before .before .read-tail .ensures .1) (c .read-as .ensures)
+returns-3 : tie.Need-returns-3
+returns-3 c =
+    kind-series (c .before .before .before .before .before .before .before .before .before .before .before .before .before .before .before .before .before .before .before .args .file .now) (c .before .before .before .before .before .before .before .before .before .before .before .before .before .before .before .before .before .before .before .args .at) (c .before .before .before .before .before .before .before .before .before .before .before .before .before .before .before .before .before .before .before .args .from) (length (c .before .before .before .before .before .before .before .before .before .before .before .before .before .before .before .before .before .before .before .args .series .now)) (c .before .before .before .before .before .before .before .before .before .before .before .before .before .before .before .before .before .before .before .args .kind) (sym (c .before .before .before .before .before .before .before .before .before .before .before .before .before .before .before .before .kind-ok .ensures) ∙ not-false _ (c .before .before .before .before .before .before .before .before .before .before .before .before .before .before .before .if1 .left)) (c .before .before .before .before .before .before .before .before .before .before .before .before .before .before .fields-of .ensures)
+    (fields-to (c .before .before .before .before .before .before .before .before .before .before .before .before .before .before .before .before .before .before .before .args .file .now) (c .before .before .before .before .before .before .before .before .before .before .before .before .before .before .before .before .before .before .before .args .from) _ (c .before .before .before .before .before .before .before .before .before .before .before .before .before .read-fields .result) (c .before .before .before .before .before .before .before .before .before .before .before .before .before .read-fields .ensures) (c .before .before .before .before .before .before .before .before .before .before .before .before .before .before .before .before .before .before .before .pre) (c .before .before .before .before .before .before .before .before .before .before .passed .given .1))
+    (c .before .before .before .before .before .before .before .before .before .before .before .before .before .before .before .before .before .before .before .args .series .now) (c .before .before .before .before .before .before .before .before .if2 .left) (c .before .before .before .before .before .before .read-series .ensures) (c .before .before .value .given .1) (c .read-as2 .ensures)
 
 same-length-2 : tie.Need-same-length-2
 same-length-2 c = search needs
 
-returns-3 : tie.Need-returns-3
-returns-3 c =
-    kind-tail (c .before .before .before .before .before .before .before .before .before .before .before .before .before .before .before .before .before .before .args .file .now) (c .before .before .before .before .before .before .before .before .before .before .before .before .before .before .before .before .before .before .args .at) (c .before .before .before .before .before .before .before .before .before .before .before .before .before .before .before .before .before .before .args .from) (length (c .before .before .before .before .before .before .before .before .before .before .before .before .before .before .before .before .before .before .args .series .now)) (c .before .before .before .before .before .before .before .before .before .before .before .before .before .before .before .before .before .before .args .kind) (sym (c .before .before .before .before .before .before .before .before .before .before .before .before .before .before .before .kind-ok .ensures) ∙ not-false _ (c .before .before .before .before .before .before .before .before .before .before .before .before .before .before .if1 .left)) (c .before .before .before .before .before .before .before .before .before .before .before .before .before .fields-of .ensures)
-    (fields-to (c .before .before .before .before .before .before .before .before .before .before .before .before .before .before .before .before .before .before .args .file .now) (c .before .before .before .before .before .before .before .before .before .before .before .before .before .before .before .before .before .before .args .from) _ (c .before .before .before .before .before .before .before .before .before .before .before .before .read-fields .result) (c .before .before .before .before .before .before .before .before .before .before .before .before .read-fields .ensures) (c .before .before .before .before .before .before .before .before .before .before .before .before .before .before .before .before .before .before .pre) (c .before .before .before .before .before .before .before .before .before .passed .given .1))
-    (c .before .before .before .before .before .before .before .before .before .before .before .before .before .before .before .before .before .before .args .series .now) (sym (c .before .before .before .before .before .before .read-tail .ensures .0) ∙ c .before .before .cause .given .1) (c .before .before .before .before .before .before .read-tail .ensures .1) (c .refused2 .ensures)
-
 returns-4 : tie.Need-returns-4
 returns-4 c =
+    kind-cut (c .before .before .before .before .before .before .before .before .before .before .before .before .before .before .before .before .before .before .before .args .file .now) (c .before .before .before .before .before .before .before .before .before .before .before .before .before .before .before .before .before .before .before .args .at) (c .before .before .before .before .before .before .before .before .before .before .before .before .before .before .before .before .before .before .before .args .from) (length (c .before .before .before .before .before .before .before .before .before .before .before .before .before .before .before .before .before .before .before .args .series .now)) (c .before .before .before .before .before .before .before .before .before .before .before .before .before .before .before .before .before .before .before .args .kind) (sym (c .before .before .before .before .before .before .before .before .before .before .before .before .before .before .before .before .kind-ok .ensures) ∙ not-false _ (c .before .before .before .before .before .before .before .before .before .before .before .before .before .before .before .if1 .left)) (c .before .before .before .before .before .before .before .before .before .before .before .before .before .before .fields-of .ensures)
+    (fields-to (c .before .before .before .before .before .before .before .before .before .before .before .before .before .before .before .before .before .before .before .args .file .now) (c .before .before .before .before .before .before .before .before .before .before .before .before .before .before .before .before .before .before .before .args .from) _ (c .before .before .before .before .before .before .before .before .before .before .before .before .before .read-fields .result) (c .before .before .before .before .before .before .before .before .before .before .before .before .before .read-fields .ensures) (c .before .before .before .before .before .before .before .before .before .before .before .before .before .before .before .before .before .before .before .pre) (c .before .before .before .before .before .before .before .before .before .before .passed .given .1))
+    (c .before .before .before .before .before .before .before .before .before .before .before .before .before .before .before .before .before .before .before .args .series .now) (c .before .before .before .before .before .before .before .before .if2 .left) (c .before .before .before .before .before .before .read-series .ensures) (c .before .before .cause .given .1) (c .refused2 .ensures)
+
+returns-5 : tie.Need-returns-5
+returns-5 c =
     call-refused (c .before .before .before .before .before .before .before .before .before .before .before .args .file .now) (c .before .before .before .before .before .before .before .before .before .before .before .args .at) _ (c .before .before .before .before .before .before .before .before .before .before .before .args .series .now)
     (kind-fields (c .before .before .before .before .before .before .before .before .before .before .before .args .file .now) (c .before .before .before .before .before .before .before .before .before .before .before .args .at) (c .before .before .before .before .before .before .before .before .before .before .before .args .from) (length (c .before .before .before .before .before .before .before .before .before .before .before .args .series .now)) (c .before .before .before .before .before .before .before .before .before .before .before .args .kind) (sym (c .before .before .before .before .before .before .before .before .kind-ok .ensures) ∙ not-false _ (c .before .before .before .before .before .before .before .if1 .left)) (c .before .before .before .before .before .before .fields-of .ensures)
     (fields-not (c .before .before .before .before .before .before .before .before .before .before .before .args .file .now) (c .before .before .before .before .before .before .before .before .before .before .before .args .from) _ (c .before .before .before .before .before .read-fields .result) (c .before .before .before .before .before .read-fields .ensures) (c .before .before .passed2 .given .1)))
@@ -83,15 +92,17 @@ read-kind-spec =
     fields-of-requires
     read-fields-requires
     enum-known-passed
-    read-tail-requires
-    enum-known-value
     read-as-requires
+    returns-2
+    read-series-requires
+    enum-known-value
+    read-as-requires-2
     enum-known-cause
     refused-requires-2
     enum-known-passed-2
     refused-requires-3
     same-length
-    returns-2
-    same-length-2
     returns-3
-    returns-4)
+    same-length-2
+    returns-4
+    returns-5)
