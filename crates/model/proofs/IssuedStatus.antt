@@ -15,12 +15,13 @@ use Rattle.quantity.proofs.Lists.{all-at, all-set, all-map}
 use Rattle.quantity.proofs.Tests.{by-test, and-left, or-left, or-right, within-low, within-high}
 use Rattle.state.specs.Change.{submitted, confirm, noticed, settle, settledBy}
 use Rattle.state.specs.Desk.{versionsIn, flagOf}
-use Rattle.state.specs.Selection.{own, versionOf, Tells}
+use Rattle.state.specs.Selection.{own, orElse, versionOf, Tells}
 use Rattle.state.specs.Status.{statusNumber, counts, isCheck, confirmedStatus, settledStatus}
 use Rattle.state.specs.Version.{emptyVersion, newVersion, restatus, recordAt, held}
 use Rattle.state.specs.declared.Held.{Held}
 use Rattle.state.specs.declared.Held.the-variants.{Absent, Has}
-use Rattle.state.specs.declared.Selection.the-variants.{Selected}
+use Rattle.state.specs.declared.Selection.{Selection}
+use Rattle.state.specs.declared.Selection.the-variants.{None, Selected}
 use Rattle.state.specs.declared.Status.{Status}
 use Rattle.state.specs.declared.Status.the-variants.{Check, Settlement, Correction}
 use Rattle.state.specs.declared.VersionRecord.{VersionRecord}
@@ -181,7 +182,12 @@ module _ (l : List Told) where
         firstOpen = λ z p r e. ending (first-status p vs r e) (never 3 vs p r (shown l .firstOpen z) refl (own-tells 1 p vs r e));
         second = shown l .second;
         secondOpen = λ z p r e. ending (second-status p vs r e) (never 5 vs p r (shown l .secondOpen z) refl (own-tells 2 p vs r e));
+        both = λ y z p r e. go y z p r (own 2 p vs) refl e;
       }
+    where
+      go : issuedOf (plainEnd [] l) .first ≡ true → issuedOf (plainEnd [] l) .second ≡ true → (p : ℕ) (r : VersionRow) (s : Selection) → own 2 p vs ≡ s → orElse s (own 1 p vs) ≡ Selected r → (statusNumber (r .status) ≡ 5) ⊎ (statusNumber (r .status) ≡ 3)
+      go y z p r None e k = inr (shown l .first y p r k)
+      go y z p r (Selected q) e k = inl (shown l .second z p r (e ∙ k))
 
 -- and of the running desk
 pub running-tells : (s : Stores) (l : List Lent) → Chained (fresh s) l → TellsIssued (end (fresh s) l .desk .frame .issued) (versionsIn (end (fresh s) l .desk))

@@ -82,12 +82,13 @@ pub record NoticeCounts (clearing point version day : ℕ) (vs ws : List Version
   pub late : clearing < day → TakenUp 2 point version day vs ws log after
 
 -- what a status tells of its run, document 02: "issue (sets status 3 or 5)". Where run 1 is issued its selection has 3, and where run 2 is its own has
--- 5; before that 2 and 4, closed or not. Where run 2 has none of its own it tells run 1's
+-- 5; before that 2 and 4, closed or not. Where run 2 has none of its own it tells run 1's, so once both are issued what it selects has 5 or 3
 pub record TellsIssued (issued : Runs) (vs : List VersionRecord) : Type 0 where
   pub first : issued .first ≡ true → (p : ℕ) (r : VersionRow) → selected 1 p vs ≡ Selected r → statusNumber (r .status) ≡ 3
   pub firstOpen : issued .first ≡ false → (p : ℕ) (r : VersionRow) → selected 1 p vs ≡ Selected r → statusNumber (r .status) ≡ 2
   pub second : issued .second ≡ true → (p : ℕ) (r : VersionRow) → own 2 p vs ≡ Selected r → statusNumber (r .status) ≡ 5
   pub secondOpen : issued .second ≡ false → (p : ℕ) (r : VersionRow) → own 2 p vs ≡ Selected r → statusNumber (r .status) ≡ 4
+  pub both : issued .first ≡ true → issued .second ≡ true → (p : ℕ) (r : VersionRow) → selected 2 p vs ≡ Selected r → (statusNumber (r .status) ≡ 5) ⊎ (statusNumber (r .status) ≡ 3)
 
 -- how both acts stand to the deadlines: a closed run lies behind its own, since 27 is "day ≤ C (run 1) or ≤ K (run 2)", and an issued one is closed
 pub record ActsInOrder (clearing correction day : ℕ) (closed issued : Runs) : Type 0 where
