@@ -1,6 +1,7 @@
 /*
- * A host program: it says whether a message file is whole, whether each run is closed and issued, which version of each point
- * it selects in each run and whether that version is settled, and prints a balance group's month from a book.
+ * A host program: it says whether a message file is whole, whether each run is closed and issued, which deltas have another
+ * group in run 2, which version of each point each run selects and whether that version is settled, and prints a balance group's
+ * month from a book.
  *
  *     host MESSAGE-FILE BOOK-FILE QUARTERS RUN GROUP
  *
@@ -75,9 +76,23 @@ static void print_run(int run, uint64_t closed, uint64_t issued) {
     printf("run %d: %s, %s\n", run, closed ? "closed" : "not closed", issued ? "issued" : "not issued");
 }
 
+/* Prints the deltas whose group in run 2 is another one than in run 1. */
+static void print_deltas(const uint64_t *first, const uint64_t *second) {
+    int delta;
+    for (delta = 0; delta < EMORIZUGU_DELTAS; delta++) {
+        if (first[delta] == second[delta])
+            continue;
+        if (delta == 0)
+            printf("delta T");
+        else
+            printf("delta of area %d", delta);
+        printf(": group %" PRIu64 " in run 1, group %" PRIu64 " in run 2\n", first[delta], second[delta]);
+    }
+}
+
 /*
- * Runs a message file through a fresh desk and prints, if it was opened, how far both runs are and what they select of each
- * point. 0 where there is no memory.
+ * Runs a message file through a fresh desk and prints, if it was opened, how far both runs are, where their delta groups differ,
+ * and what they select of each point. 0 where there is no memory.
  */
 static int print_selections(const struct file *message) {
     static struct emorizugu_lent r;
@@ -87,6 +102,7 @@ static int print_selections(const struct file *message) {
         if (r.summary[EMORIZUGU_OPENED] != 0) {
             print_run(1, r.summary[EMORIZUGU_CLOSED_1], r.summary[EMORIZUGU_ISSUED_1]);
             print_run(2, r.summary[EMORIZUGU_CLOSED_2], r.summary[EMORIZUGU_ISSUED_2]);
+            print_deltas(r.summary + EMORIZUGU_DELTA_GROUPS_1, r.summary + EMORIZUGU_DELTA_GROUPS_2);
         }
         print_points(r.points);
     }

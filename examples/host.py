@@ -10,7 +10,7 @@ import pathlib
 import sys
 
 # Summary, points and versions have these places; the lengths are those of emorizugu.h for any month.
-QUARTERS, VERSIONS, BOOK_ROWS, GROUPS, SUMMARY, POINTS = 2980, 512, 162, 64, 12, 9 * 256
+QUARTERS, VERSIONS, BOOK_ROWS, GROUPS, SUMMARY, POINTS = 2980, 512, 162, 64, 46, 9 * 256
 OPENED, REFUSED = 2, 5
 
 desk = ctypes.CDLL(sys.argv[1])

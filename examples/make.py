@@ -3,8 +3,8 @@
 
 Message files: `example.msg` is the one that document 01 writes out, `month.msg` its sample month, packed from
 `month.calls`; `corrected.msg` has corrections with run 1 closed and issued, `settled.msg` the same with both runs,
-`older.msg` with both closed alone, as older files have them; the others are empty or damaged, and each of these is refused
-for one cause. Books and schedules, all of two quarter hours: `month.book` has the figures of document 01's sample month,
+`older.msg` with both closed alone, as older files have them, `moved.msg` with other delta groups in run 2; the others are
+empty or damaged, and each of these is refused for one cause. Books and schedules, all of two quarter hours: `month.book` has the figures of document 01's sample month,
 `edges.book` figures at both ends of the 64-bit range, and `short.book` lacks its last byte; `month.lodged` has what some
 groups of the sample month planned, `edges.lodged` numbers beside those of `edges.book`, and `short.lodged` lacks its last
 byte. `july.csv` has the series of `july.calls`.
@@ -51,6 +51,8 @@ MESSAGES = {
     "settled.msg": CORRECTED + bytes.fromhex("07 02 97 01  08 02 97 01"),
     # Both runs closed, and none issued.
     "older.msg": CONFIRMED + bytes.fromhex("07 01 20  07 02 97 01"),
+    # After the clearing deadline area 1 goes to group 7, T to group 9.
+    "moved.msg": CORRECTED + bytes.fromhex("06 01 07 21  06 00 09 21"),
     "empty.msg": b"",
     # 31: the second submission lacks its last byte.
     "cut.msg": EXAMPLE[:-1],

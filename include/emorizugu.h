@@ -25,7 +25,7 @@ extern "C" {
 #endif
 
 /* The version of these entries. It rises with every change that a host notices; emorizugu_version() is the library's. */
-#define EMORIZUGU_VERSION 7
+#define EMORIZUGU_VERSION 8
 
 /* Answers: accepted, and the causes of a refusal in the order in which they are checked. docs/CAUSES.md has them in words. */
 #define EMORIZUGU_ACCEPTED         0
@@ -36,7 +36,7 @@ extern "C" {
 #define EMORIZUGU_BAD_OPENING      4   /* quarter hours, deadlines, groups or lengths not allowed */
 #define EMORIZUGU_PAST_DAY         5   /* the day lies before the desk's day */
 #define EMORIZUGU_AFTER_CORRECTION 11  /* the day lies behind the correction deadline */
-#define EMORIZUGU_AFTER_CLEARING   26  /* assign, lodge: the day lies behind the clearing deadline */
+#define EMORIZUGU_TOO_LATE         26  /* assign: the day lies behind the correction deadline; lodge: behind the clearing deadline */
 #define EMORIZUGU_POINT_ACTIVE     21  /* activate: the point is active */
 #define EMORIZUGU_SAME_SERIES      22  /* activate: an active point has the same series */
 #define EMORIZUGU_NOT_ACTIVE       12  /* the point is not active */
@@ -68,8 +68,10 @@ extern "C" {
 #define EMORIZUGU_BOOK_BYTES 1296
 #define EMORIZUGU_SCHEDULE_BYTES 512
 
-/* Figures of a book a quarter hour; the versions that a desk holds at most, and its points. */
+/* Figures of a book a quarter hour; deltas: that of the transmission operator (T), those of areas 1 to 16; the versions that a
+ * desk holds at most, and its points. */
 #define EMORIZUGU_BOOK_ROWS 162
+#define EMORIZUGU_DELTAS 17
 #define EMORIZUGU_VERSIONS 512
 #define EMORIZUGU_POINTS 256
 
@@ -84,7 +86,7 @@ extern "C" {
 #define EMORIZUGU_SERIES_LENGTH EMORIZUGU_QUARTERS
 #define EMORIZUGU_ANSWERS_LENGTH(file_length) ((file_length) / 3 + 1)
 
-/* The stack that a call needs, in bytes, with room to spare: a replay was measured to touch 92,895. */
+/* The stack that a call needs, in bytes, with room to spare: a replay was measured to touch 96,799. */
 #define EMORIZUGU_STACK 131072
 
 /* The places of a replay's summary. */
@@ -101,7 +103,11 @@ enum {
     EMORIZUGU_CLOSED_2,  /* 1 where run 2 is closed, else 0 */
     EMORIZUGU_ISSUED_1,  /* 1 where run 1 is issued, so that what it selects is settled, else 0 */
     EMORIZUGU_ISSUED_2,  /* 1 where run 2 is issued, so that what it has of its own is settled, else 0 */
-    EMORIZUGU_SUMMARY    /* how many places these are */
+    /* The delta groups of run 1 and of run 2, each in 17 places: that of T, then those of areas 1 to 16; 0 where no call opened
+       the desk. They are the same until an assignment behind the clearing deadline, which run 2 alone takes. */
+    EMORIZUGU_DELTA_GROUPS_1,
+    EMORIZUGU_DELTA_GROUPS_2 = EMORIZUGU_DELTA_GROUPS_1 + EMORIZUGU_DELTAS,
+    EMORIZUGU_SUMMARY = EMORIZUGU_DELTA_GROUPS_2 + EMORIZUGU_DELTAS /* how many places these are: 46 */
 };
 
 /*
@@ -198,8 +204,10 @@ uint64_t emorizugu_shortfall(const uint8_t *book, size_t length, const uint8_t *
 
 /*
  * A whole message file through a fresh desk: call after call is read and handed to the desk, until the file ends, is
- * refused, or the answers are full. Kind 7 is close and kind 8 issue, both with run and day. An older file's kind 7, which
- * was settle, is read as close: the run is closed then and not issued, and its versions keep 2 and 4.
+ * refused, or the answers are full. Kind 6, assign, moves a delta to another group: up to the clearing deadline in both runs,
+ * behind it and up to the correction deadline in run 2 alone, whether a run is closed and issued or not. Kind 7 is close and
+ * kind 8 issue, both with run and day. An older file's kind 7, which was settle, is read as close: the run is closed then and
+ * not issued, and its versions keep 2 and 4.
  *
  * values, book, log, schedules: the desk's stores, of any lengths and with anything in them. The opening takes values and
  * log as they are long, of the book the first 162 x Q figures and of the schedules the first 64 x Q energies; a Q that
@@ -208,11 +216,12 @@ uint64_t emorizugu_shortfall(const uint8_t *book, size_t length, const uint8_t *
  * numbers a row: day, point, run, new version; the schedules 0 at the places that emorizugu_report_refusal names. What
  * the desk did not use is as it was.
  * series: room for a submission's energies. answers: answers[i] is that of call i + 1: 0, or the number of the cause
- * that the desk refuses it for. summary: EMORIZUGU_SUMMARY places. points: EMORIZUGU_POINTS_LENGTH, a row a point, with what
- * each run selects and its status. versions: EMORIZUGU_VERSIONS_LENGTH, a row a version.
+ * that the desk refuses it for. summary: EMORIZUGU_SUMMARY places, with the delta groups of each run. points:
+ * EMORIZUGU_POINTS_LENGTH, a row a point, with what each run selects and its status. versions: EMORIZUGU_VERSIONS_LENGTH, a
+ * row a version.
  *
  * 0 where the whole file was run, else the number of the reader's refusal, 31 to 35, or 35 where the answers are full
- * and bytes are left (the summary then has as many calls answered as there are answers). 2 where summary (12), points
+ * and bytes are left (the summary then has as many calls answered as there are answers). 2 where summary (46), points
  * (2,304) or versions (2,048) have fewer places; nothing is done then. A file that was run may have calls that were
  * refused: the summary says how many, and which was the first.
  */

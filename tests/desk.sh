@@ -49,8 +49,8 @@ refusals() {
     refusal 'open quarters 2: refused, 6: line 1 opened the desk' 'take the second opening away; a file is one month' "$OPEN"
     refusal 'submit point 1 version 2: refused, 11: day 151 lies behind the correction deadline, day 150 (line 1)' \
         'the last day for it is 150; correct the day, or leave the call out' "$active" 'submit point=1 version=2 day=151 energies=1,2'
-    refusal 'assign area T group 5: refused, 26: day 31 lies behind the clearing deadline, day 30 (line 1)' \
-        'the last day for it is 30; correct the day, or leave the call out' 'assign area=T group=5 day=31'
+    refusal 'assign area T group 5: refused, 26: day 151 lies behind the correction deadline, day 150 (line 1)' \
+        'the last day for it is 150; correct the day, or leave the call out' 'assign area=T group=5 day=151'
     refusal 'activate point 1: refused, 21: point 1 is active since line 2' 'take a free point, or deactivate it first' "$active" \
         'activate point=1 kind=1 area=2 partner=0 day=0'
     refusal 'activate point 2: refused, 22: point 1 has the same kind, area and partner (line 2)' \
@@ -130,6 +130,8 @@ dated_refusals() {
     refusal 'close run 1: refused, 27: day 30 (2026-09-11) does not lie behind the clearing deadline, day 30 (2026-09-11, line 1)' \
         'close run 1 on day 31 (2026-09-14) or later' 'close run=1 day=2026-09-11'
     refusal 'issue run 1: refused, 38: run 1 is not closed yet' 'put `close run=1` in front of it, on day 31 (2026-09-14) or later' 'issue run=1 day=2026-09-15'
+    refusal 'assign area 16 group 5: refused, 26: day 151 (2027-03-10) lies behind the correction deadline, day 150 (2027-03-09, line 1)' \
+        'the last day for it is 150 (2027-03-09); correct the day, or leave the call out' 'assign area=16 group=5 day=2027-03-10'
     refusal "notice point 1 version 2: refused, 37: version 2 lies below version 3, the point's highest, which line 4 submitted on day 12 (2026-08-18)" \
         'give the notice for version 3, the highest, or leave the call out' "$active" "$sent" 'submit point=1 version=3 day=2026-08-18 energies=1,2' \
         'notice point=1 version=2 verdict=positive day=2026-08-19'
@@ -289,6 +291,21 @@ waiting() {
     # The line that it names, put behind the others.
     { cat "$file" && sed -n 's/.*to send its statuses: \(.*\), or a later day$/\1/p' "$work/out"; } >"$work/waited.calls"
     ./desk run "$work/waited.calls" | grep -q '^23 calls, none refused; day 151 (2027-03-10); runs 1 and 2 issued; '
+}
+
+# July with an assign behind its clearing deadline: the delta of area 2 has another group in run 2. README has these lines.
+corrected_group() {
+    local file line call='assign area=2 group=8 day=2026-10-02'
+    grep -qF "With \`$call\` in front of July's \`close run=correction\`:" README.md || return 1
+    cp examples/july.csv "$work"
+    file=$(sed "/^close run=correction/i $call" examples/july.calls | text corrected.calls)
+    ./desk run "$file" >"$work/out" 2>&1 || return 1
+    for line in '1 delta has another group in run 2' \
+        '    day 45 (2026-10-02): area 2, run 2: group 8 in the place of 2, which run 1 keeps; 27 127 901 Wh' \
+        '    2              23 321 303                       0             -23 321 303' \
+        '    8                       0              27 127 901              27 127 901'; do
+        if ! grep -qxF "$line" "$work/out" || ! grep -qxF "    $line" README.md; then echo "$line" && return 1; fi
+    done
 }
 
 # The 513th version.
@@ -760,6 +777,316 @@ END
 {"run":2,"quarter":2,"group":5,"figure":4}
 ]
 END
+}
+
+# ---- deltas and their groups
+
+# Four series of two quarter hours. Deltas by hand, the same in both runs: T 7 8, area 1 63 152 (exchange less tie less area sum), area 2 20 20. On the clearing
+# deadline, day 30, area 1 goes to group 9 in both runs; behind it area 2, area 3, whose delta is 0, and on the correction deadline, day 150, T in run 2 alone,
+# though run 1 is closed and issued. On day 151 it is too late.
+delta_groups() {
+    local file
+    file=$(text groups.calls <<END
+$OPEN
+activate point=1 kind=exchange area=1 partner=outside day=0
+activate point=2 kind=exchange area=2 partner=1 day=0
+activate point=3 kind=group-sum area=2 partner=5 day=0
+activate point=4 kind=area-sum area=1 partner=none day=0
+submit point=1 version=1 day=2 energies=100,200
+submit point=2 version=1 day=2 energies=30,40
+submit point=3 version=1 day=2 energies=10,20
+submit point=4 version=1 day=2 energies=7,8
+assign area=1 group=9 day=30
+close run=1 day=31
+issue run=1 day=31
+assign area=2 group=5 day=31
+assign area=3 group=64 day=31
+assign area=T group=9 day=150
+assign area=T group=6 day=151
+END
+    )
+    head -n 15 "$file" >"$work/late.calls"
+    head -n 10 "$file" >"$work/early.calls"
+    groups_in_words "$file"
+    groups_in_files
+    group_lists
+    group_picks
+    groups_alike
+    groups_by_version
+    groups_refused
+    for file in groups late early; do
+        holds "delta groups: the lists of $file" python3 tests/forms.py ./desk "$work/$file.calls"
+        page_of "$file" "$work/$file.calls" 2>/dev/null
+        page_script "$file" "$work/$file.calls" 2>/dev/null
+    done
+    holds 'delta groups: the lists of one group, with dates' python3 tests/forms.py ./desk "$work/late.calls" --group 9 --month 2026-07
+    group_pages
+    group_reports
+}
+
+# changed_of MONTH [OPTION..]: what `desk run` says between its first line and what each run selects.
+changed_of() {
+    ./desk run "$@" | sed -n '/quarter hours$/,/^run 1 is /{/quarter hours$/d; /^run 1 is /d; p}'
+}
+
+groups_in_words() {
+    expect 'delta groups: on the deadlines and behind them' 1 ./desk run "$1" <<END
+line 16, call 16: assign area T group 6: refused, 26: day 151 lies behind the correction deadline, day 150 (line 1)
+    to mend it: the last day for it is 150; correct the day, or leave the call out
+
+16 calls, 1 refused; day 150; run 1 issued; run 2 not closed; 2 quarter hours
+the first refused: line 16, call 16
+
+3 deltas have another group in run 2
+    day 150: T, run 2: group 9 in the place of 4, which run 1 keeps; 15 Wh
+    day 31: area 2, run 2: group 5 in the place of 2, which run 1 keeps; 40 Wh
+    day 31: area 3, run 2: group 64 in the place of 3, which run 1 keeps; 0 Wh
+
+group               run 1, Wh               run 2, Wh          difference, Wh
+    2                      40                       0                     -40
+    4                      15                       0                     -15
+    5                      30                      70                      40
+    9                     215                     230                      15
+
+run 1 is issued: 4 of 4 selected versions settled
+    closed on day 31, issued on day 31
+run 2 is not closed: 4 of 4 selected versions settled; 0 its own, 4 as run 1
+
+point  series                        settled  run 1      run 2     other versions
+    1  exchange area 1 with outside  run 1    1 settled  as run 1
+    2  exchange area 2 with area 1   run 1    1 settled  as run 1
+    3  group-sum area 2 group 5      run 1    1 settled  as run 1
+    4  area-sum area 1               run 1    1 settled  as run 1
+END
+}
+
+# Without the refused call: as a message file, with dates; the figures of both runs.
+groups_in_files() {
+    ./desk pack "$work/late.calls" -o "$work/late.msg"
+    expect 'delta groups: a message file, with dates' 0 sh -c "./desk run '$work/late.msg' --month 2026-07 | sed -n '2,6p'" <<END
+
+3 deltas have another group in run 2
+    day 150 (2027-03-09): T, run 2: group 9 in the place of 4, which run 1 keeps; 15 Wh
+    day 31 (2026-09-14): area 2, run 2: group 5 in the place of 2, which run 1 keeps; 40 Wh
+    day 31 (2026-09-14): area 3, run 2: group 64 in the place of 3, which run 1 keeps; 0 Wh
+END
+    expect 'delta groups: figures of both runs' 0 ./desk figures "$work/late.calls" --csv <<END
+run,quarter,group,figure
+1,1,2,20
+1,1,4,7
+1,1,5,10
+1,1,9,63
+1,2,2,20
+1,2,4,8
+1,2,5,20
+1,2,9,152
+2,1,5,30
+2,1,9,70
+2,2,5,40
+2,2,9,160
+END
+}
+
+group_lists() {
+    expect 'deltas: those with something to show' 0 ./desk deltas "$work/late.calls" <<END
+run  area  group  other run group                   delta
+  1     0      4                9                      15
+  1     1      9                                      215
+  1     2      2                5                      40
+  1     3      3               64                       0
+  2     0      9                4                      15
+  2     1      9                                      215
+  2     2      5                2                      40
+  2     3     64                3                       0
+END
+    expect 'deltas as csv: of a month with a refused call' 1 ./desk deltas "$work/groups.calls" --csv <<END
+run,area,group,other_run_group,delta
+1,0,4,9,15
+1,1,9,,215
+1,2,2,5,40
+1,3,3,64,0
+2,0,9,4,15
+2,1,9,,215
+2,2,5,2,40
+2,3,64,3,0
+! desk: $work/groups.calls: 1 of 16 calls were refused; \`desk run\` says which and why
+END
+    expect 'deltas as json: one run' 0 ./desk deltas "$work/late.calls" --run 2 --json <<END
+[
+{"run":2,"area":0,"group":9,"other_run_group":4,"delta":15},
+{"run":2,"area":1,"group":9,"other_run_group":null,"delta":215},
+{"run":2,"area":2,"group":5,"other_run_group":2,"delta":40},
+{"run":2,"area":3,"group":64,"other_run_group":3,"delta":0}
+]
+END
+    expect 'deltas: none where the desk is not open' 1 ./desk deltas "$work/closed.calls" --all --csv <<END
+run,area,group,other_run_group,delta
+! desk: $work/closed.calls: 2 of 2 calls were refused; \`desk run\` says which and why
+! desk: $work/closed.calls: no call opened the desk
+END
+}
+
+# A run and a group picked from the deltas: those that the run books to it. All of them; those that are 0 throughout, and one whose sum alone is 0.
+group_picks() {
+    expect 'deltas: one group' 0 ./desk deltas "$work/late.calls" --group 9 --csv <<END
+run,area,group,other_run_group,delta
+1,1,9,,215
+2,0,9,4,15
+2,1,9,,215
+END
+    expect 'deltas: one group and one run' 0 ./desk deltas "$work/late.calls" --group=4 --run=1 --csv <<END
+run,area,group,other_run_group,delta
+1,0,4,9,15
+END
+    expect 'deltas: a group with none in that run' 0 ./desk deltas "$work/late.calls" --group 4 --run 2 --json <<END
+[
+]
+END
+    ./desk deltas "$work/late.calls" --all --csv | sed 1d >"$work/all"
+    holds 'deltas: all of them' cmp <(cut -d, -f 1,2 "$work/all") <(seq -f '1,%.0f' 0 16 && seq -f '2,%.0f' 0 16)
+    holds 'deltas: those that are 0 and have one group' test "$(grep -cx '[12],[0-9]*,3,,0' "$work/all")" -eq $((2 * 13))
+    expect 'deltas: other than 0, with a sum of 0' 0 ./desk deltas <(printf '%s\n' "$OPEN" 'activate point=1 kind=exchange area=2 partner=1 day=0' 'submit point=1 version=1 day=2 energies=5,-5') --run 1 --csv <<END
+run,area,group,other_run_group,delta
+1,1,1,,0
+1,2,2,,0
+END
+    holds 'deltas: one group, those that are 0 too' cmp <(./desk deltas "$work/late.calls" --group 3 --all --csv | sed 1d | cut -d, -f 1,2) <(seq -f '1,%.0f' 3 16 && seq -f '2,%.0f' 4 16)
+}
+
+# alike LINE..: behind the first ten calls and these lines, all accepted, no delta has two groups, and nothing is said of any.
+alike() {
+    { cat "$work/early.calls" && printf '%s\n' "$@"; } >"$work/alike.calls"
+    ./desk run "$work/alike.calls" >"$work/out" && ./desk page "$work/alike.calls" >"$work/alike.html" && ./desk deltas "$work/alike.calls" --all --csv >"$work/all" &&
+        ! grep -q 'another group' "$work/out" "$work/alike.html" && ! grep -qE 'id="moved"|class="moved"' "$work/alike.html" &&
+        [ "$(grep -cE '^[12],[0-9]+,[0-9]+,,-?[0-9]+$' "$work/all")" -eq 34 ] && cmp <(sed -n 's/^1,//p' "$work/all") <(sed -n 's/^2,//p' "$work/all")
+}
+
+groups_alike() {
+    expect 'delta groups: on the clearing deadline both runs' 0 changed_of "$work/early.calls" <<END
+
+group               run 1, Wh               run 2, Wh          difference, Wh
+    2                      40                      40                       0
+    4                      15                      15                       0
+    5                      30                      30                       0
+    9                     215                     215                       0
+
+END
+    holds 'delta groups alike: none moved behind the deadline' alike '# nothing more'
+    holds 'delta groups alike: up to the deadline' alike 'assign area=T group=64 day=30' 'assign area=16 group=1 day=30' 'assign area=2 group=5 day=30'
+    holds 'delta groups alike: moved and moved back' alike 'assign area=2 group=5 day=31' 'assign area=2 group=2 day=150'
+    holds 'delta groups alike: moved to where it is' alike 'assign area=1 group=9 day=31' 'assign area=T group=4 day=150'
+    # The last one that is accepted counts, with its day.
+    expect 'delta groups: moved twice' 0 changed_of <(cat "$work/early.calls" && printf '%s\n' 'assign area=2 group=5 day=31' 'assign area=2 group=7 day=32' 'assign area=2 group=65 day=34' 'assign area=2 group=9 day=151') <<END
+the first refused: line 13, call 13
+
+1 delta has another group in run 2
+    day 32: area 2, run 2: group 7 in the place of 2, which run 1 keeps; 40 Wh
+
+group               run 1, Wh               run 2, Wh          difference, Wh
+    2                      40                       0                     -40
+    4                      15                      15                       0
+    5                      30                      30                       0
+    7                       0                      40                      40
+    9                     215                     215                       0
+
+END
+}
+
+# A correction of group 5's sum behind the assign: the delta of area 2, which run 2 books to group 5 too, goes down by as much. A correction of the exchange reaches
+# both runs' groups of area 1 alike.
+groups_by_version() {
+    { cat "$work/early.calls" && printf '%s\n' 'submit point=3 version=2 day=30 energies=15,25' 'submit point=1 version=2 day=30 energies=110,200' \
+        'assign area=2 group=5 day=31' 'notice point=3 version=2 verdict=positive day=40' 'notice point=1 version=2 verdict=positive day=41'; } >"$work/versions.calls"
+    expect 'delta groups: corrections behind an assign' 0 changed_of "$work/versions.calls" <<END
+
+2 selections changed
+    day 40: point 3, run 2: version 2 in the place of 1, which run 1 selects
+    day 41: point 1, run 2: version 2 in the place of 1, which run 1 selects
+
+1 delta has another group in run 2
+    day 31: area 2, run 2: group 5 in the place of 2, which run 1 keeps; 30 Wh
+
+group               run 1, Wh               run 2, Wh          difference, Wh
+    2                      40                       0                     -40
+    4                      15                      15                       0
+    5                      30                      70                      40
+    9                     215                     225                      10
+
+END
+    holds 'delta groups: the lists of these corrections' python3 tests/forms.py ./desk "$work/versions.calls"
+    page_of versions "$work/versions.calls"
+    page_script versions "$work/versions.calls"
+}
+
+# An assign behind the correction deadline, whatever stands in front; 3 and 5 come before 26. A schedule has no day here: lodgings are not run, and `desk causes 26`
+# says which deadline they have.
+groups_refused() {
+    local alone=1 late='the last day for it is 150; correct the day, or leave the call out' behind='day 151 lies behind the correction deadline, day 150 (line 1)'
+    refusal "assign area 16 group 64: refused, 26: $behind" "$late" 'assign area=16 group=1 day=30' 'assign area=16 group=2 day=31' 'assign area=16 group=3 day=150' \
+        'assign area=16 group=64 day=151'
+    refusal "assign area 1 group 1: refused, 26: $behind" "$late" 'close run=1 day=31' 'close run=2 day=151' 'issue run=2 day=151' 'assign area=1 group=1 day=151'
+    refusal 'assign area T group 5: refused, 26: day 400 lies behind the correction deadline, day 150 (line 1)' "$late" 'assign area=0 group=5 day=400'
+    refusal "assign area 2 group 5: refused, 5: day 31 lies before the desk's day 32, which line 2 set" 'give it day 32 or later; if day 32 is a mistake, correct line 2' \
+        'assign area=2 group=6 day=32' 'assign area=2 group=5 day=31'
+    refusal "assign area 2 group 5: refused, 5: day 151 lies before the desk's day 160, which line 2 set" 'give it day 160 or later; if day 160 is a mistake, correct line 2' \
+        'close run=1 day=160' 'assign area=2 group=5 day=151'
+    refusal 'assign area 17 group 0: refused, 3: area 17 is not 0 to 16; group 0 is not 1 to 64' 'correct what is named' 'assign area=17 group=0 day=151'
+}
+
+# deltas_on PAGE: the rows of its table of deltas, as they are shown; a group that is marked stands in brackets.
+deltas_on() {
+    sed -n '/<table id="deltas">/,/<\/tbody>/s/^<tr>\(.*\)<\/tr>$/\1/p' "$1" | sed 's/<td class="moved"[^>]*>\([^<]*\)/<td>[\1]/; s/<\/td>/:/; s/<[^>]*>/ /g; s/  */ /g; s/^ //; s/ $//; s/ :/:/'
+}
+
+group_pages() {
+    expect 'delta groups: the table on the page' 0 deltas_on "$work/late.html" <<END
+T: 4 [9] 15 15 0
+area 1: 9 9 215 215 0
+area 2: 2 [5] 40 40 0
+area 3: 3 [64] 0 0 0
+END
+    expect 'delta groups: above the groups on the page' 0 sh -c "sed -n '/id=\"moved\"/,/<\/ol>/p' '$work/late.html'" <<END
+<h2>Deltas with another group in run 2</h2><div class="scroll short"><ol class="calls" id="moved">
+<li>day 150: T, run 2: group 9 in the place of 4, which run 1 keeps; 15 Wh</li>
+<li>day 31: area 2, run 2: group 5 in the place of 2, which run 1 keeps; 40 Wh</li>
+<li>day 31: area 3, run 2: group 64 in the place of 3, which run 1 keeps; 0 Wh</li>
+</ol></div>
+END
+    holds 'delta groups: a date on the page' grep -qxF '<li>day 150 (2027-03-09): T, run 2: group 9 in the place of 4, which run 1 keeps; 15 Wh</li>' <(./desk page "$work/late.calls" --month 2026-07)
+    holds 'delta groups: the figures of the page' python3 tests/page.py "$work/late.html" "$work/late.csv"
+    holds 'delta groups: refused on the page' grep -qF '<li>line 16, call 16: assign area T group 6: refused, 26: day 151 lies behind the correction deadline, day 150 (line 1)<br>' "$work/groups.html"
+    expect 'delta groups: none moved, the table on the page' 0 deltas_on "$work/early.html" <<END
+T: 4 4 15 15 0
+area 1: 9 9 215 215 0
+area 2: 2 2 40 40 0
+END
+}
+
+# What the groups add up to is the outside exchange, 300, in both runs; a group's surplus and shortfall go by its run's deltas.
+group_reports() {
+    local plans=$work/late.schedules
+    printf '%s\n' 'lodge group=5 energies=31,39' 'lodge group=2 energies=20,20' >"$plans"
+    expect 'delta groups: the report' 0 ./desk report "$work/late.calls" "$plans" <<END
+run  group  lodged                schedule                  figure                 surplus               shortfall
+  1      2  yes                         40                      40                       0                       0
+  1      4  no                           0                      15                       0                      15
+  1      5  yes                         70                      30                      40                       0
+  1      9  no                           0                     215                       0                     215
+  2      2  yes                         40                       0                      40                       0
+  2      4  no                           0                       0                       0                       0
+  2      5  yes                         70                      70                       1                       1
+  2      9  no                           0                     230                       0                     230
+
+over all groups, Wh                                  run 1                     run 2
+surplus less shortfall                                -190                      -190
+schedules less outside exchange                       -190                      -190
+    schedules                                          110                       110
+    outside exchange                                   300                       300
+both sides are equal in run 1 and in run 2
+END
+    holds 'delta groups: the report in each form' python3 tests/forms.py ./desk "$work/late.calls" --schedules "$plans"
+    page_of late_planned "$work/late.calls" "$plans"
+    page_script late_planned "$work/late.calls" "$plans"
 }
 
 # ---- text
@@ -1594,23 +1921,23 @@ example() { # command
 
 help() {
     local command
-    for command in run figures log points runs report page pack print day date calendar causes; do
+    for command in run figures log points runs deltas report page pack print day date calendar causes; do
         holds "help of $command, and its example" example "$command"
     done
     holds 'help of report by its name' cmp <(./desk help report) <(./desk report --help)
     has 'help' 0 '^Exit status: 0 all calls accepted' ./desk --help
-    has 'version' 0 '^desk [0-9.]+, library 7$' ./desk --version
+    has 'version' 0 '^desk [0-9.]+, library 8$' ./desk --version
     has 'no command' 2 'desk run' ./desk
     has 'a wrong command' 2 "there is no command 'runn'; commands are run, figures" ./desk runn
     has 'help of a wrong command' 2 "there is no command 'runn'" ./desk help runn
     has 'words behind --version' 2 "nothing follows: 'x'" ./desk --version x
     has 'a wrong option' 2 'desk log has no option --runn; its options are --csv, --json, --run, --group, --month$' ./desk log x --runn 3
-    has 'an option of others: run' 2 'desk run has no option --group; figures, log, points, report have it$' ./desk run x --group 3
-    has 'an option of others: page' 2 'desk page has no option --run; figures, log, points, runs, report have it$' ./desk page x --run 1
-    has 'an option of others: causes' 2 'desk causes has no option --run; figures, log, points, runs, report have it$' ./desk causes --run 1
-    has 'an option of others: day' 2 'desk day has no option --month; run, figures, log, points, runs, report, page, pack, print have it$' ./desk day x --month 2026-10
-    has 'an option of others: runs' 2 'desk runs has no option --group; figures, log, points, report have it$' ./desk runs x --group 3
-    has 'an option of others: log' 2 'desk log has no option --all; figures, report have it$' ./desk log x --all
+    has 'an option of others: run' 2 'desk run has no option --group; figures, log, points, deltas, report have it$' ./desk run x --group 3
+    has 'an option of others: page' 2 'desk page has no option --run; figures, log, points, runs, deltas, report have it$' ./desk page x --run 1
+    has 'an option of others: causes' 2 'desk causes has no option --run; figures, log, points, runs, deltas, report have it$' ./desk causes --run 1
+    has 'an option of others: day' 2 'desk day has no option --month; run, figures, log, points, runs, deltas, report, page, pack, print have it$' ./desk day x --month 2026-10
+    has 'an option of others: runs' 2 'desk runs has no option --group; figures, log, points, deltas, report have it$' ./desk runs x --group 3
+    has 'an option of others: log' 2 'desk log has no option --all; figures, deltas, report have it$' ./desk log x --all
     has 'an option of another' 2 'desk run has no option --schedules; desk page has it$' ./desk run x --schedules y
     has 'an option twice' 2 '--run stands twice' ./desk log x --run 1 --run 2
     has 'two forms' 2 '--csv and --json do not go together' ./desk log x --csv --json
@@ -1630,7 +1957,7 @@ help() {
 man_page() {
     local command line
     sed 's/\\-/-/g; s/\\&//g; s/\\e/\\/g' "$work/desk.1" >"$work/manual"
-    for command in run figures log points runs report page pack print day date calendar causes; do
+    for command in run figures log points runs deltas report page pack print day date calendar causes; do
         ./desk "$command" --help | while IFS= read -r line; do
             [ -z "$line" ] || grep -qF -- "${line%.}" "$work/manual" || { echo "$command: $line" && return 1; }
         done || return 1
@@ -1677,6 +2004,7 @@ causes() {
     calls:   submit, notice, assign, lodge, show, report; entries for C
     calls:   assign, lodge
 END
+    late_causes
     run_causes
     has 'the cause of a date' 0 '^    calls:   calendar$' ./desk causes 36
     has 'no such cause' 2 "there is no cause '7'" ./desk causes 7
@@ -1704,6 +2032,25 @@ END
     expect 'it as json' 0 ./desk causes 37 --json <<END
 [
 {"number":37,"name":"NOTICE_BELOW","meaning":"the version lies below the point's highest; a notice, positive or negative, is for the highest only","calls":"notice","mend":"give the notice for the point's highest version; to have an older series count, submit it again with a higher number"}
+]
+END
+}
+
+# The cause of an assign and a lodging that come too late, each by its own deadline, as each form shows it.
+late_causes() {
+    expect 'the cause of a late assign and a late lodging' 0 ./desk causes 26 <<END
+26  the day lies behind the deadline: correction for assign, clearing for lodge
+    calls:   assign, lodge
+    to mend: it is too late for this month
+END
+    expect 'it as csv, with that of other late calls' 0 ./desk causes 26 11 --csv <<END
+number,name,meaning,calls,mend
+11,AFTER_CORRECTION,the day lies behind the correction deadline (A01),"activate, deactivate, submit, notice",it is too late for this month
+26,TOO_LATE,"the day lies behind the deadline: correction for assign, clearing for lodge","assign, lodge",it is too late for this month
+END
+    expect 'the cause of a late assign and a late lodging as json' 0 ./desk causes 26 --json <<END
+[
+{"number":26,"name":"TOO_LATE","meaning":"the day lies behind the deadline: correction for assign, clearing for lodge","calls":"assign, lodge","mend":"it is too late for this month"}
 ]
 END
 }
@@ -1769,10 +2116,10 @@ month() {
     page_of small examples/month.calls
     holds "the sample month's page" python3 tests/page.py "$work/small.html" "$work/small.csv"
     page_script small examples/month.calls
-    expect "the sample month's deltas on the page" 0 sed -n 's#^<tr><td class="word" data-n="[0-9]*">\([^<]*\)</td><td data-n="\(-*[0-9]*\)">.*#\1: \2#p' "$work/small.html" <<END
-T: 200
-area 1: 18000
-area 2: 50100
+    expect "the sample month's deltas on the page" 0 deltas_on "$work/small.html" <<END
+T: 4 4 200 200 0
+area 1: 1 1 18 000 18 000 0
+area 2: 2 2 50 100 50 100 0
 END
     page_of two "$work/two.calls"
     page_script two "$work/two.calls"
@@ -1814,8 +2161,9 @@ page_script() {
     ./desk points "$2" --csv >"$work/$1.points"
     ./desk log "$2" --csv >"$work/$1.log"
     ./desk runs "$2" --csv >"$work/$1.runs"
+    ./desk deltas "$2" --csv >"$work/$1.deltas"
     [ -z "${3:-}" ] || ./desk report "$2" "$3" --csv >"$work/$1.report"
-    holds "the page's script: $1" node tests/page.js "$work/$1.html" "$work/$1.csv" "$work/$1.points" "$work/$1.log" "$work/$1.runs" ${3:+"$work/$1.report" "$3"}
+    holds "the page's script: $1" node tests/page.js "$work/$1.html" "$work/$1.csv" "$work/$1.points" "$work/$1.log" "$work/$1.runs" "$work/$1.deltas" ${3:+"$work/$1.report" "$3"}
 }
 
 # ---- README
@@ -1843,11 +2191,13 @@ if ./desk --version >"$work/log" 2>&1; then
     dated_refusals
     holds 'one typed day' typed_day
     holds 'a run that waits for its issue' waiting
+    holds 'an area with another group for its correction' corrected_group
     too_many
     not_open
     sample
     selections
     settled
+    delta_groups
     bad_lines
     series_files
     there_and_back

@@ -1,7 +1,7 @@
 /*
  * Every entry with NULL where the length is 0, the calendar, and both on a thread of EMORIZUGU_STACK bytes; the places of
- * the summary and the points, kinds of calls, runs closed and issued; and of document 01's sample month the versions selected
- * with their statuses, and a report.
+ * the summary and the points, kinds of calls, runs closed and issued, delta groups of each run; and of document 01's sample month
+ * the versions selected with their statuses, and a report.
  */
 #include <pthread.h>
 #include <stdio.h>
@@ -90,24 +90,59 @@ static int places(size_t summary, size_t points, uint64_t answer) {
     return none.points[0] == (answer == 0 ? 0 : 9) ? 0 : wrong("points that are too few");
 }
 
-/* Both runs closed, run 2 issued, run 1 not: the month is opened with F 10, C 30 and K 150. An issue of run 1 before its close
-   and one of run 2 behind its issue are refused. */
-static int acts(void) {
-    static const uint8_t calls[] = {1, 1, 10, 30, 0x96, 1, 4, 1, 2, 3, 3, 3, 3, 3, 3, 3, 3, 3, 3, 3, 3, 3, 3,
-                                    8, 1, 31, 7, 1, 31, 7, 2, 0x97, 1, 8, 2, 0x97, 1, 8, 2, 0x97, 1};
-    static const uint64_t wanted[] = {0, EMORIZUGU_NOT_CLOSED, 0, 0, 0, EMORIZUGU_ALREADY_ISSUED};
-    static uint64_t book[EMORIZUGU_BOOK_ROWS], schedules[EMORIZUGU_GROUPS], answers[8];
-    static struct emorizugu_lent a;
+/* Whether the delta groups of a run are these of T and of areas 1 and 2, and 3 of the other areas; or all 0. */
+static int grouped(const uint64_t *groups, uint64_t t, uint64_t one, uint64_t two) {
     size_t i;
-    a.file = calls, a.length = sizeof calls;
-    a.book = book, a.book_length = EMORIZUGU_BOOK_LENGTH(1);
-    a.schedules = schedules, a.schedules_length = EMORIZUGU_SCHEDULES_LENGTH(1);
-    a.answers = answers, a.answers_length = 8;
-    if (emorizugu_run(&a) != 0 || a.summary[EMORIZUGU_ANSWERED] != sizeof wanted / sizeof *wanted)
-        return wrong("a file of closes and issues");
-    for (i = 0; i < sizeof wanted / sizeof *wanted; i++)
+    for (i = 3; i < EMORIZUGU_DELTAS; i++)
+        if (groups[i] != (t == 0 ? 0 : 3))
+            return 0;
+    return groups[0] == t && groups[1] == one && groups[2] == two;
+}
+
+/* Runs calls of a month of one quarter hour, and compares their answers. */
+static int answered(struct emorizugu_lent *a, const uint8_t *calls, size_t length, const uint64_t *wanted, size_t count) {
+    static uint64_t book[EMORIZUGU_BOOK_ROWS], schedules[EMORIZUGU_GROUPS], answers[8];
+    size_t i;
+    a->file = calls, a->length = length;
+    a->book = book, a->book_length = EMORIZUGU_BOOK_LENGTH(1);
+    a->schedules = schedules, a->schedules_length = EMORIZUGU_SCHEDULES_LENGTH(1);
+    a->answers = answers, a->answers_length = 8;
+    if (emorizugu_run(a) != 0 || a->summary[EMORIZUGU_ANSWERED] != count)
+        return 0;
+    for (i = 0; i < count; i++)
         if (answers[i] != wanted[i])
-            return wrong("the answer to a close or an issue");
+            return 0;
+    return 1;
+}
+
+/* The month is opened with F 10, C 30 and K 150; delta groups T 4, area 1: 1, area 2: 2, others 3. */
+#define OPENED 1, 1, 10, 30, 0x96, 1, 4, 1, 2, 3, 3, 3, 3, 3, 3, 3, 3, 3, 3, 3, 3, 3, 3
+
+/* Assignments on C, on C + 1, on K and on K + 1: both runs have the first, run 2 alone the next two, none the last. */
+static int groups(void) {
+    static const uint8_t calls[] = {OPENED, 6, 1, 7, 30, 6, 1, 8, 31, 6, 0, 9, 0x96, 1, 6, 2, 64, 0x97, 1};
+    static const uint64_t wanted[] = {0, 0, 0, 0, EMORIZUGU_TOO_LATE};
+    static struct emorizugu_lent a, none;
+    size_t i;
+    for (i = 0; i < EMORIZUGU_SUMMARY; i++)
+        none.summary[i] = 9;
+    if (!answered(&a, calls, sizeof calls, wanted, sizeof wanted / sizeof *wanted))
+        return wrong("the answer to an assignment");
+    if (!grouped(a.summary + EMORIZUGU_DELTA_GROUPS_1, 4, 7, 2) || !grouped(a.summary + EMORIZUGU_DELTA_GROUPS_2, 9, 8, 2))
+        return wrong("the delta groups of the runs");
+    if (emorizugu_run(&none) != 0 || !grouped(none.summary + EMORIZUGU_DELTA_GROUPS_1, 0, 0, 0)
+        || !grouped(none.summary + EMORIZUGU_DELTA_GROUPS_2, 0, 0, 0))
+        return wrong("the delta groups of a desk that is not open");
+    return EMORIZUGU_DELTA_GROUPS_1 == 12 && EMORIZUGU_DELTA_GROUPS_2 == 29 ? 0 : wrong("the places of the delta groups");
+}
+
+/* Both runs closed, run 2 issued, run 1 not. An issue of run 1 before its close and one of run 2 behind its issue are refused. */
+static int acts(void) {
+    static const uint8_t calls[] = {OPENED, 8, 1, 31, 7, 1, 31, 7, 2, 0x97, 1, 8, 2, 0x97, 1, 8, 2, 0x97, 1};
+    static const uint64_t wanted[] = {0, EMORIZUGU_NOT_CLOSED, 0, 0, 0, EMORIZUGU_ALREADY_ISSUED};
+    static struct emorizugu_lent a;
+    if (!answered(&a, calls, sizeof calls, wanted, sizeof wanted / sizeof *wanted))
+        return wrong("the answer to a close or an issue");
     if (a.summary[EMORIZUGU_CLOSED_1] != 1 || a.summary[EMORIZUGU_CLOSED_2] != 1)
         return wrong("the runs that are closed");
     return a.summary[EMORIZUGU_ISSUED_1] == 0 && a.summary[EMORIZUGU_ISSUED_2] == 1 ? 0 : wrong("the runs that are issued");
@@ -165,7 +200,8 @@ static int small_stack(const char *name) {
 }
 
 int main(int argc, char **argv) {
-    if (nothing() != 0 || places(12, 2303, 2) != 0 || places(11, 2304, 2) != 0 || places(12, 2304, 0) != 0 || acts() != 0)
+    if (nothing() != 0 || places(46, 2303, 2) != 0 || places(45, 2304, 2) != 0 || places(12, 2304, 2) != 0
+        || places(46, 2304, 0) != 0 || acts() != 0 || groups() != 0)
         return 1;
     return argc == 2 && small_stack(argv[1]) == 0 ? 0 : 1;
 }

@@ -1,6 +1,7 @@
 #!/usr/bin/env python3
 """Compares the forms of each list of `desk` on a month: text, csv and json have the same rows in the same order, at each run, and the order is total.
 Of the points' versions those count that document 01 selects by their statuses, and `desk run` tells the same of each point and of each run.
+A group that no series is a sum of has in each run what the deltas add up to that the run books to it, and `desk run` tells which have two groups.
 With schedules, in watt-hours and on their lines, each report is what document 02 works out from schedules and figures, and so are both sides of their sum.
 
     forms.py DESK MONTH [--schedules TEXT] [--group N] [--month M]
@@ -17,7 +18,7 @@ STATUSES = ("check data", "settlement data", "settled", "correction settlement d
 FIRST, SECOND, SETTLED = STATUSES[1:3], STATUSES[3:], STATUSES[2::2]
 
 # The columns that a list is ordered by; no two rows are equal in them.
-ORDER = {"figures": ("run", "quarter", "group"), "log": ("row",), "points": ("point", "version"), "runs": ("run",), "report": ("run", "group")}
+ORDER = {"figures": ("run", "quarter", "group"), "log": ("row",), "points": ("point", "version"), "runs": ("run",), "deltas": ("run", "area"), "report": ("run", "group")}
 
 WORDS = argparse.ArgumentParser()
 for word in ("desk", "file", "--schedules", "--group", "--month"):
@@ -157,6 +158,37 @@ def acted(points):
             assert (len(counted_rows), len(settled_rows)) == (int(row["selected"]), int(row["settled"])), row
 
 
+def moved_line(first, second):
+    """What `desk run` says of a delta that has two groups, without its day."""
+    whose = "T" if first["area"] == "0" else f"area {first['area']}"
+    delta = f"{int(second['delta']):,}".replace(",", " ")
+    return f"{whose}, run 2: group {second['group']} in the place of {first['group']}, which run 1 keeps; {delta} Wh"
+
+
+def moved(first, second):
+    """`desk run` names the deltas that have two groups, and no others."""
+    wanted = [moved_line(*two) for two in zip(first, second) if two[0]["group"] != two[1]["group"]]
+    text = re.search(r"^\d+ deltas? (?:has|have) another group in run 2\n((?:    .*\n)*)", written("run"), re.M)
+    lines = text.group(1).splitlines() if text else []
+    assert [re.sub(r"^    day \d+( \(\S+\))?: ", "", line) for line in lines] == wanted, (lines, wanted)
+    assert not text or int(text.group(0).split()[0]) == len(wanted) > 0, text.group(0)
+
+
+def booked():
+    """Each run's deltas, and the groups that have nothing else."""
+    rows = list(csv.DictReader(io.StringIO(written("deltas", "--all", "--csv"))))
+    runs = [[row for row in rows if row["run"] == run] for run in ("1", "2")]
+    assert [[row["area"] for row in run] for run in runs] == [[str(area) for area in range(17)]] * 2, len(rows)
+    for run, other in (runs, runs[::-1]):
+        for row, there in zip(run, other):
+            assert row["other_run_group"] == ("" if row["group"] == there["group"] else there["group"]), row
+    sums = {row["partner"] for row in csv.DictReader(io.StringIO(written("points", "--csv"))) if row["kind"] in ("group-sum", "operator-sum")}
+    for (run, group), figures in taken().items():
+        deltas = [int(row["delta"]) for row in runs[run - 1] if row["group"] == str(group)]
+        assert str(group) in sums or sum(figures) == sum(deltas), (run, group, sum(figures), deltas)
+    moved(*runs)
+
+
 def lodged():
     """The schedules of the text by group; a later line replaces an earlier one."""
     with open(ASKED.schedules, encoding="utf-8") as file:
@@ -229,6 +261,7 @@ def main():
     counted(points)
     told(points)
     acted(points)
+    booked()
     if ASKED.schedules:
         reported()
 

@@ -1,27 +1,27 @@
 // Runs the script of a page of `desk page` over a stand-in for a browser's document, clicks, and compares what it draws and tells with the lists:
-// heat maps, a group's curve on a click, the timeline, what each run selects; a sorted column keeps ties in the list's order and each row whole. With schedules,
-// in watt-hours and on their lines, also the bars and the table of surplus and shortfall, and the schedule beside a curve.
+// heat maps, a group's curve on a click, the timeline, what each run selects, the deltas with their group in each run; a sorted column keeps ties in the list's
+// order and each row whole. With schedules, in watt-hours and on their lines, also the bars and the table of surplus and shortfall, and the schedule beside a curve.
 //
-//     node page.js PAGE FIGURES POINTS LOG RUNS [REPORT SCHEDULES]        the lists as csv, figures with --all
+//     node page.js PAGE FIGURES POINTS LOG RUNS DELTAS [REPORT SCHEDULES]        the lists as csv, figures with --all
 "use strict";
 const assert = require("assert");
 const fs = require("fs");
 
 const page = fs.readFileSync(process.argv[2], "utf8");
-const [figures, points, log, runs, report] = process.argv.slice(3, 8).map((name) => {
+const [figures, points, log, runs, deltas, report] = process.argv.slice(3, 9).map((name) => {
   const [head, ...lines] = fs.readFileSync(name, "utf8").trimEnd().split("\n").map((line) => line.split(","));
   return lines.map((line) => { const row = {}; head.forEach((column, at) => row[column] = line[at]); return row; });
 });
 
 const plans = {};
-const lodgings = process.argv[8] === undefined ? "" : fs.readFileSync(process.argv[8], "utf8");
+const lodgings = process.argv[9] === undefined ? "" : fs.readFileSync(process.argv[9], "utf8");
 for (const [, group, energies] of lodgings.matchAll(/^lodge group=(\d+) energies=(\S+)/gm)) plans[group] = energies.split(",").map(Number);
 
 // ---- the stand-in
 
 const plain = (html) => html.replace(/<[^>]*>/g, "").replace(/&lt;/g, "<").replace(/&gt;/g, ">").replace(/&quot;/g, '"').replace(/&amp;/g, "&");
 const dataOf = (tag) => Object.fromEntries([...tag.matchAll(/data-(\w+)="([^"]*)"/g)].map((found) => [found[1], found[2]]));
-const cellsOf = (html, name) => [...html.matchAll(new RegExp(`<${name}( [^>]*)?>(.*?)</${name}>`, "g"))].map((found) => ({ dataset: dataOf(found[1] || ""), textContent: plain(found[2]) }));
+const cellsOf = (html, name) => [...html.matchAll(new RegExp(`<${name}( [^>]*)?>(.*?)</${name}>`, "g"))].map((found) => ({ dataset: dataOf(found[1] || ""), className: ((found[1] || "").match(/class="([^"]*)"/) || ["", ""])[1], textContent: plain(found[2]) }));
 
 class Head {
   constructor(cell) { this.textContent = cell.textContent; this.attributes = {}; }
@@ -270,8 +270,38 @@ function selectedRow(number) {
   return [number, seriesOf(rows[0]), word, ...cells, others.join(", ")];
 }
 
+// ---- deltas
+
+// Run 1 and run 2 of each delta, in the list's order.
+function bothRuns() {
+  const [first, second] = ["1", "2"].map((run) => deltas.filter((row) => row.run === run));
+  return first.map((row, at) => { assert.strictEqual(row.area, second[at].area); return [row, second[at]]; });
+}
+
+const whose = ({ area }) => area === "0" ? "T" : "area " + area;
+
+// A row a delta: its group in each run, that of run 2 marked where it is another; its sums and their difference.
+function deltaRow([first, second]) {
+  const numbers = [first.area, first.group, second.group, first.delta, second.delta, String(BigInt(second.delta) - BigInt(first.delta))];
+  return { name: whose(first), numbers, marks: ["word", "", first.group === second.group ? "" : "moved", "", "", ""] };
+}
+
+// Above the groups an item for each delta that has two groups, and nothing where there is none.
+function movedItems() {
+  const [, items] = page.match(/<h2>Deltas with another group in run 2<\/h2><div class="scroll short"><ol class="calls" id="moved">\n(.*?)<\/ol>/s) || [];
+  const shown = items === undefined ? [] : items.trimEnd().split("\n").map((item) => plain(item).replace(/^day \d+( \([\d-]+\))?: /, "").replace(/(\d) (?=\d{3})/g, "$1"));
+  const moved = bothRuns().filter(([first, second]) => first.group !== second.group);
+  assert.deepStrictEqual(shown, moved.map(([first, second]) => `${whose(first)}, run 2: group ${second.group} in the place of ${first.group}, which run 1 keeps; ${second.delta} Wh`));
+  assert.strictEqual(items === undefined && !page.includes('id="moved"'), moved.length === 0);
+}
+
 assert.strictEqual(tables.length, report === undefined ? 5 : 6);
-const [selectedTable, pointTable, logTable] = tables.slice(-3);
+const [deltaTable, selectedTable, pointTable, logTable] = tables.slice(-4);
+const deltaCells = deltaTable.tBodies[0].rows.map(({ cells }) => ({ name: cells[0].textContent, numbers: cells.map((cell) => cell.dataset.n), marks: cells.map((cell) => cell.className) }));
+assert.deepStrictEqual(deltaTable.tHead.rows[0].cells.map((head) => head.textContent), ["delta", "group in run 1", "group in run 2", "run 1", "run 2", "difference"]);
+assert.deepStrictEqual(deltaCells, bothRuns().map(deltaRow));
+for (const { cells } of deltaTable.tBodies[0].rows) for (const cell of cells.slice(1)) assert.strictEqual(cell.textContent.replace(/ /g, ""), cell.dataset.n);
+movedItems();
 assert.deepStrictEqual(selectedTable.tBodies[0].rows.map((row) => row.cells.map((cell) => cell.textContent)), [...new Set(points.map((row) => row.point))].map(selectedRow));
 for (const [table, list] of [[pointTable, points], [logTable, log]]) assert.deepStrictEqual(listed(table, list), list.map((row) => Object.values(row).join()));
 runs.forEach(told);

@@ -373,6 +373,50 @@ END
     expect 'an older file: 2 and 4' 0 ./run "$work/older.msg" <"$work/statuses"
 }
 
+# Delta groups of each run: assignments on the clearing deadline, behind it, on the correction deadline and behind that.
+desk_on_groups() {
+    pack groups.msg <<END
+$OPEN
+activate point=1 kind=1 area=1 partner=0 day=0
+activate point=2 kind=3 area=1 partner=0 day=0
+submit point=1 version=1 day=2 energies=100
+submit point=2 version=1 day=2 energies=9
+assign area=1 group=7 day=30
+assign area=1 group=8 day=31
+assign area=T group=9 day=150
+assign area=1 group=10 day=151
+END
+    expect 'delta groups of each run' 0 ./run "$work/groups.msg" <<END
+$(numbered 1 8 0)
+9 26
+G 1 1 4 9
+G 1 1 7 91
+T 1 1 100
+G 2 1 8 91
+G 2 1 9 9
+T 2 1 100
+S 1 1 1 2
+S 1 2 1 2
+S 2 1 1 2
+S 2 2 1 2
+END
+    expect 'delta groups of each run, run 1 issued' 0 ./run examples/moved.msg <<END
+$(numbered 1 16 0)
+G 1 1 1 990
+G 1 1 5 10
+T 1 1 1000
+G 2 1 5 20
+G 2 1 7 975
+G 2 1 9 5
+T 2 1 1000
+S 1 1 7 3
+S 1 2 1 3
+S 2 1 7 3
+S 2 2 2 4
+S 2 3 1 4
+END
+}
+
 # expected_statuses CALLS FIRST SECOND: what is printed of that month with so many calls, all accepted: statuses of the versions
 # that run 1 selects, and of those that run 2 has of its own.
 expected_statuses() {
@@ -574,6 +618,7 @@ if ./run examples/empty.msg >"$work/log" 2>&1; then
     desk_on_notices
     desk_on_acts
     desk_on_statuses
+    desk_on_groups
     desk_on_long_files
     desk_on_small_stack
     run_itself

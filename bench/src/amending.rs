@@ -15,7 +15,7 @@ use crate::cause::{
     are_deadlines, are_energies, is_point, is_version, refuse_if, Cause, LAST_DAY, LOG_ROW, POINTS,
     QUARTERS, VERSIONS,
 };
-use crate::replay::{self, Stores};
+use crate::replay::{self, Ended, Stores};
 use crate::row;
 use crate::script;
 use crate::series::{
@@ -157,7 +157,8 @@ const CHAINED: u8 = 2;
 struct Desk<const LOOK: u8> {
     opening: Opening,
     day: u64,
-    groups: [u64; DELTAS],
+    /// The delta groups of each run.
+    groups: [[u64; DELTAS]; 2],
     used: usize,
     closed: [bool; 2],
     issued: [bool; 2],
@@ -173,7 +174,7 @@ impl<const LOOK: u8> Desk<LOOK> {
         Desk {
             opening,
             day: 0,
-            groups,
+            groups: [groups; 2],
             used: 0,
             closed: [false; 2],
             issued: [false; 2],
@@ -202,7 +203,7 @@ impl<const LOOK: u8> Desk<LOOK> {
         } = self.opening;
         self.opening.fits()
             && self.day <= LAST_DAY
-            && self.groups.iter().all(|&group| is_group(group))
+            && self.groups.iter().flatten().all(|&group| is_group(group))
             && self.count <= VERSIONS
             && self.count * quarters as usize <= values
             && self.used <= log / LOG_ROW
@@ -419,26 +420,33 @@ impl<const LOOK: u8> Desk<LOOK> {
         let fits = area <= AREAS && is_group(group) && day <= LAST_DAY;
         refuse_if(!fits, Cause::BadField)?;
         refuse_if(day < self.day, Cause::PastDay)?;
-        let [_, clearing, _] = self.opening.deadlines;
-        refuse_if(day > clearing, Cause::AfterClearing)?;
+        let [_, clearing, correction] = self.opening.deadlines;
+        refuse_if(day > correction, Cause::TooLate)?;
 
-        let quarters = self.opening.quarters as usize;
-        let before = self.groups[area as usize];
-        for run in stores.book.chunks_exact_mut(ROWS * quarters) {
-            let (groups, deltas) = run.split_at_mut(GROUPS as usize * quarters);
-            let delta = &deltas[area as usize * quarters..][..quarters];
-            row::subtract(
-                &mut groups[group_row(before) * quarters..][..quarters],
-                delta,
-            );
-            row::add(
-                &mut groups[group_row(group) * quarters..][..quarters],
-                delta,
-            );
+        let first = usize::from(day > clearing);
+        for run in first..2 {
+            self.move_delta(run, area, group, stores.book);
         }
-        self.groups[area as usize] = group;
         self.day = day;
         Ok(())
+    }
+
+    /// A delta to another group of a run, counted from 0.
+    fn move_delta(&mut self, run: usize, area: u64, group: u64, book: &mut [u64]) {
+        let quarters = self.opening.quarters as usize;
+        let run_rows = &mut book[run * ROWS * quarters..][..ROWS * quarters];
+        let (groups, deltas) = run_rows.split_at_mut(GROUPS as usize * quarters);
+        let delta = &deltas[area as usize * quarters..][..quarters];
+        let before = &mut self.groups[run][area as usize];
+        row::subtract(
+            &mut groups[group_row(*before) * quarters..][..quarters],
+            delta,
+        );
+        row::add(
+            &mut groups[group_row(group) * quarters..][..quarters],
+            delta,
+        );
+        *before = group;
     }
 
     /// The run of a close or an issue, with causes 1, 3 and 5.
@@ -547,8 +555,9 @@ impl<const LOOK: u8> Desk<LOOK> {
         let new = series(at);
         let old = old.map(|pick| series(pick.at));
         let book = &mut stores.book[(run as usize - 1) * ROWS * quarters..][..ROWS * quarters];
+        let groups = &self.groups[run as usize - 1];
         let mut post = |side: Side, out: Option<&[u64]>, into: Option<&[u64]>| {
-            for row in side.rows(&self.groups) {
+            for row in side.rows(groups) {
                 row::change(&mut book[row * quarters..][..quarters], out, into);
             }
         };
@@ -621,12 +630,16 @@ impl<const LOOK: u8> replay::Desk for Desk<LOOK> {
         self.call(call, series, stores)
     }
 
-    fn ended(&self, _: &mut [u64], _: &mut [u64], statuses: &mut [u64]) -> (usize, usize) {
+    fn ended(&self, _: &mut [u64], _: &mut [u64], statuses: &mut [u64]) -> Ended {
         let held = &self.versions[..self.count];
         for (place, version) in statuses.iter_mut().zip(held) {
             *place = version.status as u64;
         }
-        (self.used, self.count)
+        Ended {
+            used: self.used,
+            held: self.count,
+            groups: self.groups,
+        }
     }
 }
 
@@ -649,7 +662,7 @@ impl<const LOOK: u8> script::Desk for Desk<LOOK> {
         refuse_if(!fits, Cause::BadField)?;
         refuse_if(day < self.day, Cause::PastDay)?;
         let [_, clearing, _] = self.opening.deadlines;
-        refuse_if(day > clearing, Cause::AfterClearing)?;
+        refuse_if(day > clearing, Cause::TooLate)?;
         schedules[group_row(group) * quarters..][..quarters].copy_from_slice(energies);
         self.day = day;
         Ok(())

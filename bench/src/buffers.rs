@@ -1,9 +1,12 @@
 //! What a replay of a message file is lent.
 
-use crate::series::{BOOK_ROWS, GROUPS};
+use crate::series::{BOOK_ROWS, DELTAS, GROUPS};
 
 /// Places of a summary.
-pub const SUMMARY: usize = 5;
+pub const SUMMARY: usize = COUNTS + 2 * DELTAS;
+
+/// Those before the delta groups.
+pub const COUNTS: usize = 5;
 
 /// The stores, the series buffer, and what the answers, the summary and the statuses are written to.
 #[derive(Clone)]
@@ -21,7 +24,7 @@ pub struct Buffers {
     /// A place for each call's number.
     pub answers: Vec<u64>,
     /// Calls answered; the offset of the refused call, the file's length, or 0 where the answers are full; Q; log rows
-    /// used; versions held.
+    /// used; versions held; the delta groups of run 1, then those of run 2.
     pub summary: Vec<u64>,
     /// The status of each version held.
     pub statuses: Vec<u64>,

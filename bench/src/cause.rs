@@ -39,8 +39,8 @@ pub enum Cause {
     NoVersion = 24,
     /// The version is not check data.
     NotCheckData = 25,
-    /// An assignment after C.
-    AfterClearing = 26,
+    /// An assignment after K, or a lodging after C.
+    TooLate = 26,
     /// A close on the run's deadline or before it.
     CloseTooEarly = 27,
     /// The run is closed.

@@ -1,6 +1,6 @@
 //! The host's entry for a whole message file, and the script driver of `test_drive`, lent the buffers of a replay.
 
-use crate::buffers::{Buffers, SUMMARY};
+use crate::buffers::{Buffers, COUNTS, SUMMARY};
 use emorizugu_tests::linked;
 use emorizugu_tests::replay;
 
@@ -25,8 +25,10 @@ pub fn replay(file: &[u8], buffers: &mut Buffers) -> u64 {
     let tables = [&mut told[..], &mut points, &mut versions];
     let stores = [&mut values[..], book, log, schedules];
     let number = linked::replay(file, stores, series, answers, tables);
-    let places = summary.len().min(SUMMARY);
-    summary[..places].copy_from_slice(&told[..places]);
+    if summary.len() >= SUMMARY {
+        summary[..COUNTS].copy_from_slice(&told[..COUNTS]);
+        summary[COUNTS..SUMMARY].copy_from_slice(&told[replay::DELTA_GROUPS..]);
+    }
     let held = versions.chunks_exact(4).take(told[HELD] as usize);
     for (place, version) in statuses.iter_mut().zip(held) {
         *place = version[STATUS];

@@ -6,7 +6,7 @@ use crate::cause::{
     are_deadlines, are_energies, is_point, is_version, refuse_if, Cause, LAST_DAY, LOG_ROW, POINTS,
     QUARTERS, VERSIONS,
 };
-use crate::replay::{self, Stores};
+use crate::replay::{self, Ended, Stores};
 use crate::row;
 use crate::series::{is_group, is_series, sides, AREAS, BOOK_ROWS, DELTAS, GROUPS, ROWS};
 use emorizugu_tests::message::{Call, MOST_FIELDS};
@@ -43,7 +43,8 @@ struct Month<'a> {
     deadlines: [u64; 3],
     lengths: [usize; 4],
     day: u64,
-    groups: [u64; DELTAS],
+    /// The delta groups of each run.
+    groups: [[u64; DELTAS]; 2],
     points: [Option<Point>; POINTS],
     versions: Vec<Version<'a>>,
     closed: [bool; 2],
@@ -71,7 +72,7 @@ impl<'a> Month<'a> {
             deadlines: [fields[1], fields[2], fields[3]],
             lengths: opening.lengths,
             day: 0,
-            groups,
+            groups: [groups; 2],
             points: [None; POINTS],
             versions: Vec::with_capacity(VERSIONS),
             closed: [false; 2],
@@ -120,7 +121,10 @@ impl<'a> Month<'a> {
                 }
             }
             6 => {
-                self.groups[f[0] as usize] = f[1];
+                let first = usize::from(f[2] > self.deadlines[1]);
+                for groups in &mut self.groups[first..] {
+                    groups[f[0] as usize] = f[1];
+                }
                 self.day = f[2];
             }
             7 => {
@@ -210,10 +214,11 @@ impl<'a> Month<'a> {
         let quarters = self.quarters as usize;
         book.fill(0);
         let (first, second) = book.split_at_mut(ROWS * quarters);
+        let [groups, other_groups] = &self.groups;
         for point in self.points.iter().flatten() {
-            for (run, pick) in [
-                (&mut *first, point.first),
-                (&mut *second, point.second.or(point.first)),
+            for (run, groups, pick) in [
+                (&mut *first, groups, point.first),
+                (&mut *second, other_groups, point.second.or(point.first)),
             ] {
                 let Some(at) = pick else {
                     continue;
@@ -221,10 +226,10 @@ impl<'a> Month<'a> {
                 let series = self.versions[at].series;
                 let (kind, area, partner) = point.series;
                 let [to, from] = sides(kind, area, partner);
-                for k in to.rows(&self.groups) {
+                for k in to.rows(groups) {
                     row::add(&mut run[k * quarters..][..quarters], series);
                 }
-                for k in from.rows(&self.groups) {
+                for k in from.rows(groups) {
                     row::subtract(&mut run[k * quarters..][..quarters], series);
                 }
             }
@@ -251,7 +256,7 @@ impl<'a> Month<'a> {
                 let fits = f[0] <= AREAS && is_group(f[1]) && f[2] <= LAST_DAY;
                 refuse_if(!fits, Cause::BadField)?;
                 refuse_if(f[2] < self.day, Cause::PastDay)?;
-                refuse_if(f[2] > self.deadlines[1], Cause::AfterClearing)
+                refuse_if(f[2] > self.deadlines[2], Cause::TooLate)
             }
             7 => self.check_close(f[0], f[1]),
             _ => self.check_issue(f[0], f[1]),
@@ -410,9 +415,9 @@ impl replay::Desk for Desk {
         answer.map_or_else(|cause| cause as u64, |()| 0)
     }
 
-    fn ended(&self, values: &mut [u64], log: &mut [u64], statuses: &mut [u64]) -> (usize, usize) {
+    fn ended(&self, values: &mut [u64], log: &mut [u64], statuses: &mut [u64]) -> Ended {
         let Some(month) = Month::of(&self.list) else {
-            return (0, 0);
+            return Ended::default();
         };
         for (place, row) in log.chunks_exact_mut(LOG_ROW).zip(&month.log) {
             place.copy_from_slice(row);
@@ -424,7 +429,11 @@ impl replay::Desk for Desk {
         for (place, version) in values.chunks_exact_mut(quarters).zip(&month.versions) {
             place.copy_from_slice(version.series);
         }
-        (month.log.len(), month.versions.len())
+        Ended {
+            used: month.log.len(),
+            held: month.versions.len(),
+            groups: month.groups,
+        }
     }
 }
 

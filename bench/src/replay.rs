@@ -1,8 +1,8 @@
 //! A message file handed to a desk in Rust, call after call.
 
-use crate::buffers::{lent, Buffers, SUMMARY};
+use crate::buffers::{lent, Buffers, COUNTS, SUMMARY};
 use crate::reader::Reader;
-use crate::series::{BOOK_ROWS, GROUPS};
+use crate::series::{BOOK_ROWS, DELTAS, GROUPS};
 use emorizugu_tests::message::{Call, Cause};
 
 /// The stores lent to a call.
@@ -38,9 +38,19 @@ pub trait Desk {
     /// A call with its energies: its answer's number.
     fn handed(&mut self, call: &Call, series: &[u64], stores: &mut Stores) -> u64;
 
-    /// Log rows used and versions held at the end, and the versions' statuses; what else the desk writes only then goes to
-    /// values and log.
-    fn ended(&self, values: &mut [u64], log: &mut [u64], statuses: &mut [u64]) -> (usize, usize);
+    /// What is told at the end, and the versions' statuses; what else the desk writes only then goes to values and log.
+    fn ended(&self, values: &mut [u64], log: &mut [u64], statuses: &mut [u64]) -> Ended;
+}
+
+/// What a desk tells at the end of a file; all 0 before the opening.
+#[derive(Default)]
+pub struct Ended {
+    /// Log rows used.
+    pub used: usize,
+    /// Versions held.
+    pub held: usize,
+    /// The delta groups of each run.
+    pub groups: [[u64; DELTAS]; 2],
 }
 
 /// A whole message file through a fresh desk: 0, or the number of the refusal that ended it.
@@ -88,8 +98,9 @@ pub fn replay(mut desk: impl Desk, file: &[u8], buffers: &mut Buffers) -> u64 {
         at = call.next;
     };
     let quarters = desk.quarters();
-    let (used, held) = desk.ended(values, log, statuses);
+    let Ended { used, held, groups } = desk.ended(values, log, statuses);
     let told = [answered as u64, at, quarters, used as u64, held as u64];
-    summary[..SUMMARY].copy_from_slice(&told);
+    summary[..COUNTS].copy_from_slice(&told);
+    summary[COUNTS..SUMMARY].copy_from_slice(groups.as_flattened());
     result
 }

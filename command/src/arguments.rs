@@ -18,6 +18,7 @@ pub enum Command {
     Log,
     Points,
     Runs,
+    Deltas,
     Report,
     Page,
     Pack,
@@ -78,7 +79,7 @@ impl Wanted {
 const DEADLINES: [&str; 3] = ["--first", "--clearing", "--correction"];
 
 /// The commands by name, each with the options that it takes.
-pub const COMMANDS: [(&str, Command, &[&str]); 13] = [
+pub const COMMANDS: [(&str, Command, &[&str]); 14] = [
     ("run", Command::Run, &["--month"]),
     (
         "figures",
@@ -99,6 +100,11 @@ pub const COMMANDS: [(&str, Command, &[&str]); 13] = [
         "runs",
         Command::Runs,
         &["--csv", "--json", "--run", "--month"],
+    ),
+    (
+        "deltas",
+        Command::Deltas,
+        &["--csv", "--json", "--run", "--group", "--all", "--month"],
     ),
     (
         "report",

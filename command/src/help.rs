@@ -11,14 +11,15 @@ struct Help {
     example: &'static str,
 }
 
-const HELPS: [Help; 13] = [
+const HELPS: [Help; 14] = [
     Help {
         name: "run",
         usage: "desk run FILE [--month YYYY-MM]",
         short: "run a month: what was refused and why, then the month in short",
         body: "FILE is text (one call a line) or a message file, told apart by content, of any length; - is standard input.\n\
             Each refused call is named with its line and number, the cause, and what would mend it. Then come how many calls were\n\
-            answered and refused, the desk's day, which runs are closed and issued, the selections that changed, and each group's\n\
+            answered and refused, the desk's day, which runs are closed and issued, the selections that changed, the deltas that run 2\n\
+            books to another group than run 1, where there are any, with the day of the assign and the delta in run 2, and each group's\n\
             month: the sum of run 1, of run 2, and run 2 less run 1, in watt-hours.\n\
             Last comes what is settled: for each run whether and when it was closed and issued, and how many of the versions that it\n\
             selects are settled; where it is closed alone, the call that sends its statuses. For each active point its series, in which\n\
@@ -72,6 +73,18 @@ const HELPS: [Help; 13] = [
         example: "desk runs examples/july.calls --json",
     },
     Help {
+        name: "deltas",
+        usage: "desk deltas FILE [--run N] [--group N] [--all] [--month YYYY-MM] [--csv | --json]",
+        short: "each delta: the group that each run books it to, and its sum over the month",
+        body: "Deltas that are not 0 throughout, and those that the runs book to different groups; with --all every one: of T and of areas 1\n\
+            to 16. The opening names a delta's group for both runs. An assign up to the clearing deadline moves it in both, one behind it\n\
+            and up to the correction deadline in run 2 alone.\n\
+            --run picks a run, --group the deltas that a run books to that balance group; --month names the month of a text's dates.\n\
+            Columns: run, area (0: T), group, other_run_group (the group in the other run where it is another one, else empty), delta\n\
+            (watt-hours, summed over the month). A desk that is not open has no row.",
+        example: "desk deltas examples/month.calls --run 2 --csv",
+    },
+    Help {
         name: "report",
         usage: "desk report FILE SCHEDULES [--run N] [--group N] [--all] [--month YYYY-MM] [--csv | --json]",
         short: "each group's surplus and shortfall over the month, by its schedule",
@@ -99,9 +112,9 @@ const HELPS: [Help; 13] = [
         name: "page",
         usage: "desk page FILE [--schedules SCHEDULES] [--month YYYY-MM] [-o PAGE]",
         short: "the month as one page for a browser, with no outside parts",
-        body: "The month's totals, a heat map of groups over quarter hours for each run, a group's curve on click, the deltas, what each run\n\
-            selects with its status and whether it is settled, whether and when each run was closed and issued, points and their versions,\n\
-            refused calls, and the log as a timeline.\n\
+        body: "The month's totals, a heat map of groups over quarter hours for each run, a group's curve on click, the deltas with the group\n\
+            that each run books them to, what each run selects with its status and whether it is settled, whether and when each run was\n\
+            closed and issued, points and their versions, refused calls, and the log as a timeline.\n\
             --schedules names a text of schedules (desk report --help): surplus and shortfall of each group in both runs are then drawn and\n\
             listed, with both sides of their sum, and the schedule stands beside a group's curve.\n\
             --month names the settled month, so that days have dates.",
@@ -123,7 +136,8 @@ const HELPS: [Help; 13] = [
             close run=1 day=31\n\
             issue run=1 day=31\n\
             \n\
-            An opening names the delta groups of T and of areas 1 to 16; others stands for those that are not named.\n\
+            An opening names the delta groups of T and of areas 1 to 16; others stands for those that are not named. assign names\n\
+            another one: up to the clearing deadline for both runs, behind it and up to the correction deadline for run 2 alone.\n\
             Names for numbers: kind exchange (1), group-sum (2), area-sum (3), operator-sum (4), delta-transfer (5); verdict\n\
             positive (1), negative (0); area T (0); partner outside, none (0); run settlement (1), correction (2).\n\
             Energies are watt-hours, one for each quarter hour, with commas between; none: no energies; @FILE: a number a line;\n\

@@ -21,9 +21,11 @@ pub const GROUPS: u64 = 64;
 const POINT_PLACES: usize = 9;
 /// The places of a version: point, version, status, row of values.
 const VERSION_PLACES: usize = 4;
+/// Deltas: T's, then those of areas 1 to 16.
+pub const DELTAS: usize = calls::DELTAS.len();
 /// The places of a replay's summary: calls answered, offset, quarter hours, log rows, versions held, calls refused, the
-/// first of them, the day, run 1 closed, run 2 closed, run 1 issued, run 2 issued.
-const SUMMARY: usize = 12;
+/// first of them, the day, run 1 closed, run 2 closed, run 1 issued, run 2 issued, the delta groups of run 1, those of run 2.
+const SUMMARY: usize = 12 + 2 * DELTAS;
 
 /// A call as it was read.
 pub struct ReadCall {
@@ -204,6 +206,8 @@ pub struct Replay {
     /// Run 1 and run 2: whether it is closed, and whether its statuses are issued.
     pub closed: [bool; 2],
     pub issued: [bool; 2],
+    /// The group of each delta in run 1 and in run 2; 0 where no call opened the desk.
+    delta_groups: [[u64; DELTAS]; 2],
     /// The active points, in rising order.
     pub points: Vec<Point>,
     /// The versions, by point and then by version.
@@ -286,8 +290,8 @@ impl Lent {
 pub fn replay(file: &[u8], calls: usize) -> Replay {
     let mut lent = Lent::new(calls);
     let ending = lent.run(file);
-    let [answered, offset, quarters, logged, held, refused, _, day, acts @ ..] = lent.summary;
-    let [closed_1, closed_2, issued_1, issued_2] = acts.map(|flag| flag == 1);
+    let [answered, offset, quarters, logged, held, refused, _, day, rest @ ..] = lent.summary;
+    let [closed_1, closed_2, issued_1, issued_2, groups @ ..] = rest;
     let quarters = quarters as usize;
     lent.answers.truncate(answered as usize);
     lent.log.truncate(4 * logged as usize);
@@ -301,8 +305,9 @@ pub fn replay(file: &[u8], calls: usize) -> Replay {
         quarters,
         refused,
         day,
-        closed: [closed_1, closed_2],
-        issued: [issued_1, issued_2],
+        closed: [closed_1, closed_2].map(|flag| flag == 1),
+        issued: [issued_1, issued_2].map(|flag| flag == 1),
+        delta_groups: [0, DELTAS].map(|first| std::array::from_fn(|delta| groups[first + delta])),
         points: active(&lent.points),
         versions: held_in_order(&lent.versions),
         log: log_rows(&lent.log),
@@ -460,6 +465,27 @@ impl Replay {
                 row,
             ) as i64
         }
+    }
+
+    /// The group that a run books a delta to: T's is 0, an area's its number.
+    pub fn delta_group(&self, run: u64, delta: u64) -> u64 {
+        self.delta_groups[run as usize - 1][delta as usize]
+    }
+
+    /// Whether the runs book a delta to different groups.
+    pub fn is_moved(&self, delta: u64) -> bool {
+        self.delta_group(1, delta) != self.delta_group(2, delta)
+    }
+
+    /// Whether a delta is other than 0 in any run and quarter hour.
+    pub fn has_delta(&self, delta: u64) -> bool {
+        let rows = BOOK_ROWS / 2;
+        [0, rows].iter().any(|run| {
+            let start = (run + GROUPS as usize + delta as usize) * self.quarters;
+            self.book[start..start + self.quarters]
+                .iter()
+                .any(|word| *word != 0)
+        })
     }
 
     /// Run 2's sum of a row less run 1's.

@@ -1,8 +1,9 @@
-//! `desk figures`, `desk log`, `desk points` and `desk runs`. Each list has one order in every form: figures by run, quarter hour and group; the log as it
-//! was written; points by number, and a point's versions by version; runs by number. What is picked stays in that order.
+//! `desk figures`, `desk log`, `desk points`, `desk runs` and `desk deltas`. Each list has one order in every form: figures by run, quarter hour and group; the
+//! log as it was written; points by number, and a point's versions by version; runs by number; deltas by run and area. What is picked stays in that order.
 
 use crate::arguments::Wanted;
 use crate::calls::{name_in, yes, CLOSE, ISSUE, SERIES, STATUSES};
+use crate::deltas;
 use crate::library::{Point, Version, GROUPS};
 use crate::month::{self, Ran};
 use crate::output::{self, Failure};
@@ -207,6 +208,49 @@ pub fn runs(wanted: &Wanted) -> Result<i32, Failure> {
     let is_asked = |run: &u64| wanted.run.is_none_or(|asked| asked == *run);
     for run in (1..=2).filter(is_asked).filter(|_| ran.replay.quarters > 0) {
         run_row(&mut sheet, &ran, run);
+    }
+    told(&ran, sheet)
+}
+
+const DELTAS: &[Column] = &[
+    Column("run", 3),
+    Column("area", 4),
+    Column("group", 5),
+    Column("other_run_group", 15),
+    Column("delta", 22),
+];
+
+fn delta_row(sheet: &mut Sheet, ran: &Ran, run: u64, delta: u64) {
+    let replay = &ran.replay;
+    let other = replay.delta_group(3 - run, delta);
+    sheet.row(&[
+        number(run),
+        number(delta),
+        number(replay.delta_group(run, delta)),
+        if replay.is_moved(delta) {
+            number(other)
+        } else {
+            Cell::Nothing
+        },
+        Cell::Sum(replay.sum(run, deltas::row(delta))),
+    ]);
+}
+
+/// The group that each run of a desk that is open books each delta to, and the delta over the month: those that have something to show, or all with `--all`.
+pub fn deltas(wanted: &Wanted) -> Result<i32, Failure> {
+    let ran = month::run(wanted)?;
+    let replay = &ran.replay;
+    let mut sheet = Sheet::new(wanted.form, DELTAS);
+    let is_asked = |run: &u64| wanted.run.is_none_or(|asked| asked == *run);
+    for run in (1..=2).filter(is_asked).filter(|_| replay.quarters > 0) {
+        let is_booked = |delta: &u64| {
+            let group = replay.delta_group(run, *delta);
+            wanted.group.is_none_or(|asked| asked == group)
+        };
+        deltas::all()
+            .filter(is_booked)
+            .filter(|delta| wanted.all || deltas::is_shown(replay, *delta))
+            .for_each(|delta| delta_row(&mut sheet, &ran, run, delta));
     }
     told(&ran, sheet)
 }

@@ -7,6 +7,7 @@ mod calls;
 mod causes;
 mod dates;
 mod days;
+mod deltas;
 mod deviation;
 mod entries;
 mod help;
@@ -62,6 +63,7 @@ fn perform(wanted: &Wanted) -> Result<i32, Failure> {
         Command::Log => lists::log(wanted),
         Command::Points => lists::points(wanted),
         Command::Runs => lists::runs(wanted),
+        Command::Deltas => lists::deltas(wanted),
         Command::Report => report::report(wanted),
         Command::Page => page::write(wanted),
         Command::Pack => text::pack(wanted),

@@ -2,6 +2,7 @@
 
 use crate::arguments::Wanted;
 use crate::calls::{name_in, yes, OPEN, SERIES, STATUSES};
+use crate::deltas;
 use crate::deviation;
 use crate::library::{Point, Replay, Version, GROUPS};
 use crate::month::{self, Ran};
@@ -34,29 +35,30 @@ pub fn word(word: &str) -> String {
 }
 
 /// The cells of a row's sums and their difference.
-fn sums(replay: &Replay, row: u64) -> Option<String> {
-    let (first, second) = (replay.sum(1, row), replay.sum(2, row));
-    let cells = number(first) + &number(second) + &number(replay.difference(row));
-    (first != 0 || second != 0).then_some(cells)
+fn sums(replay: &Replay, row: u64) -> String {
+    number(replay.sum(1, row)) + &number(replay.sum(2, row)) + &number(replay.difference(row))
 }
 
-/// The rows of the deltas: T, then the areas.
-fn deltas(replay: &Replay) -> String {
-    let name = |area: u64| {
-        if area == 0 {
-            "T".to_string()
+/// The rows of the deltas: T, then the areas, each with its group in both runs. A group of run 2 that is another than run 1's is marked.
+fn delta_rows(replay: &Replay) -> String {
+    let row = |delta: u64| {
+        let [first, second] = [1, 2].map(|run| replay.delta_group(run, delta));
+        let mark = if first == second {
+            ""
         } else {
-            format!("area {area}")
-        }
+            " class=\"moved\""
+        };
+        format!(
+            "<tr><td class=\"word\" data-n=\"{delta}\">{}</td>{}<td{mark} data-n=\"{second}\">{second}</td>{}</tr>\n",
+            deltas::name(delta),
+            number(first as i64),
+            sums(replay, deltas::row(delta))
+        )
     };
-    let row = |area: u64| {
-        let cells = sums(replay, GROUPS + area)?;
-        Some(format!(
-            "<tr><td class=\"word\" data-n=\"{area}\">{}</td>{cells}</tr>\n",
-            name(area)
-        ))
-    };
-    (0..=16).filter_map(row).collect()
+    deltas::all()
+        .filter(|delta| deltas::is_shown(replay, *delta))
+        .map(row)
+        .collect()
 }
 
 /// The cells of a day: its number and its date.
@@ -179,16 +181,27 @@ fn refused(ran: &Ran) -> String {
     format!("<h2 class=\"bad\">Refused calls</h2>{first}<div class=\"scroll short\"><ol class=\"calls\" id=\"refused\">\n{items}{more}</ol></div>")
 }
 
-fn changed(ran: &Ran) -> String {
-    let changes = changes(&ran.replay.log);
-    if changes.is_empty() {
+/// A part with an item a line; nothing where there is none.
+fn items(title: &str, id: &str, lines: &[String]) -> String {
+    if lines.is_empty() {
         return String::new();
     }
-    let items: String = changes
+    let items: String = lines
         .iter()
-        .map(|change| format!("<li>{}</li>\n", escaped(&change.line(ran))))
+        .map(|line| format!("<li>{}</li>\n", escaped(line)))
         .collect();
-    format!("<h2>Selections that changed</h2><div class=\"scroll short\"><ol class=\"calls\" id=\"changed\">\n{items}</ol></div>")
+    format!("<h2>{title}</h2><div class=\"scroll short\"><ol class=\"calls\" id=\"{id}\">\n{items}</ol></div>")
+}
+
+fn changed(ran: &Ran) -> String {
+    let changes = changes(&ran.replay.log);
+    let lines: Vec<String> = changes.iter().map(|change| change.line(ran)).collect();
+    items("Selections that changed", "changed", &lines)
+}
+
+fn moved(ran: &Ran) -> String {
+    let title = "Deltas with another group in run 2";
+    items(title, "moved", &deltas::moved(ran))
 }
 
 /// Bytes in letters, six bits each.
@@ -249,12 +262,10 @@ fn groups(replay: &Replay, reports: Option<&Reports>) -> (String, String) {
                 .map(|quarter| replay.figure(run, group, quarter))
                 .collect()
         });
-        let cells = number(replay.sum(1, group - 1))
-            + &number(replay.sum(2, group - 1))
-            + &number(replay.difference(group - 1));
         rows.push_str(&format!(
-            "<tr data-group=\"{group}\">{}{cells}</tr>\n",
-            number(group as i64)
+            "<tr data-group=\"{group}\">{}{}</tr>\n",
+            number(group as i64),
+            sums(replay, group - 1)
         ));
         let other = if first == second {
             "null".to_string()
@@ -329,10 +340,11 @@ fn page(ran: &Ran, reports: Option<&Reports>) -> String {
         ("damage", damage),
         ("refused", refused(ran)),
         ("changes", changed(ran)),
+        ("moved", moved(ran)),
         ("groups", rows),
         ("key", key.to_string()),
         ("deviation", part.unwrap_or_default()),
-        ("deltas", deltas(replay)),
+        ("deltas", delta_rows(replay)),
         ("shares", shares(ran)),
         ("selected", selected(replay)),
         ("points", points(ran)),

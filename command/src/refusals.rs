@@ -217,10 +217,10 @@ impl<'a> Before<'a> {
 
     fn bad_day(&self, call: &'a Call, number: u64) -> Words<'a> {
         let day = call.field("day");
+        // 26 is an assignment's: a file carries no lodging, whose deadline is clearing.
         let (deadline, name) = match number {
-            11 => deadline_of(2),
             27 => deadline_of(call.field("run")),
-            _ => deadline_of(1),
+            _ => deadline_of(2),
         };
         let limit = self.opening(deadline);
         let opening = self.opened.map(|call| call.place);

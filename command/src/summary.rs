@@ -2,6 +2,7 @@
 
 use crate::arguments::Wanted;
 use crate::calls::counted;
+use crate::deltas;
 use crate::library::{LogRow, Replay, GROUPS};
 use crate::month::{self, Ran};
 use crate::output::{self, Failure};
@@ -154,6 +155,17 @@ fn changed(ran: &Ran) -> String {
     text
 }
 
+/// The deltas that run 2 books to another group than run 1.
+fn moved(ran: &Ran) -> String {
+    let lines = deltas::moved(ran);
+    if lines.is_empty() {
+        return String::new();
+    }
+    let many = counted(lines.len(), "delta", " has", "s have");
+    let lines: String = lines.iter().map(|line| format!("    {line}\n")).collect();
+    format!("\n{many} another group in run 2\n{lines}")
+}
+
 fn groups(replay: &Replay, paint: &Paint) -> String {
     let rows: Vec<(u64, i64, i64, i64)> = (1..=GROUPS)
         .map(|group| {
@@ -287,6 +299,7 @@ pub fn run(wanted: &Wanted) -> Result<i32, Failure> {
     }
     if ran.replay.quarters > 0 {
         text.push_str(&changed(&ran));
+        text.push_str(&moved(&ran));
         text.push_str(&groups(&ran.replay, &paint));
         text.push_str(&selected(&ran, &paint));
     }

@@ -54,7 +54,10 @@ pub const CASES: [(&str, &[u64]); 29] = [
 
 /// Calls between the close and the issue of a run, by their numbers: accepted ones, and those refused with 26 or 11.
 pub const BETWEEN: [(&str, &[u64]); 5] = [
-    ("run 1 not issued yet, call", &[2, 3, 4, 5, 7, 8, 9, 11, 12]),
+    (
+        "run 1 not issued yet, call",
+        &[2, 3, 4, 5, 6, 7, 8, 9, 11, 12],
+    ),
     ("run 1 not issued yet, 26, call", &[6, 10]),
     ("run 2 not issued yet, call", &[7, 8, 11, 12]),
     ("run 2 not issued yet, 11, call", &[2, 3, 4, 5]),
@@ -63,7 +66,7 @@ pub const BETWEEN: [(&str, &[u64]); 5] = [
 
 /// The same of the calls that a file carries.
 pub const BETWEEN_OF_FILES: [(&str, &[u64]); 5] = [
-    ("run 1 not issued yet, call", &[2, 3, 4, 5, 9, 12]),
+    ("run 1 not issued yet, call", &[2, 3, 4, 5, 6, 9, 12]),
     ("run 1 not issued yet, 26, call", &[6]),
     ("run 2 not issued yet, call", &[12]),
     ("run 2 not issued yet, 11, call", &[2, 3, 4, 5]),

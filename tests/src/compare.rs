@@ -1,10 +1,11 @@
 //! A month of calls with both desks: what the plain desk makes of it, whether the linked desk makes the same, and the
 //! shortest list of calls where not.
 
-use crate::call::{Call, Lengths};
+use crate::call::{Call, Lengths, DELTAS};
 use crate::counts;
 use crate::damage::{undone, Damages, FIELDS};
 use crate::desk::{Answer, Desk};
+use crate::groups;
 use crate::report;
 use crate::schedules;
 use crate::script::{self, Outcome, Record, Stores, Write, STATUS_FROM};
@@ -316,10 +317,28 @@ fn first_difference(name: &str, plain: &[u64], linked: &[u64]) -> Option<String>
     Some(format!("{name} at {at}: {one}, linked {other}"))
 }
 
-/// Where the linked desk differs from what is expected, as text.
+/// Where the linked desk differs from what is expected, its delta groups included, as text.
 pub fn difference(trial: &Trial, expected: &Expected) -> Option<String> {
     let Outcome { answers, stores } = &expected.outcome;
-    let linked = script::run(&expected.records, trial.stores());
+    let Some(month) = expected.desk.month() else {
+        let linked = script::run(&expected.records, trial.stores());
+        return outcomes_differ(answers, stores, &linked);
+    };
+    let mut stores = stores.clone();
+    let told = groups::brought_out(&month, &mut stores.book);
+    let told = [&expected.records[..], &told].concat();
+    let answers = [&answers[..], &vec![vec![0]; DELTAS]].concat();
+    let linked = script::run(&told, trial.stores());
+    outcomes_differ(&answers, &stores, &linked).map(|difference| {
+        let linked = script::run(&expected.records, trial.stores());
+        let Outcome { answers, stores } = &expected.outcome;
+        let before = outcomes_differ(answers, stores, &linked);
+        before.unwrap_or(format!("delta groups brought out: {difference}"))
+    })
+}
+
+/// Where a run of the linked desk differs from these answers and stores, as text.
+fn outcomes_differ(answers: &[Vec<u64>], stores: &Stores, linked: &Outcome) -> Option<String> {
     for (at, answer) in answers.iter().enumerate() {
         let other = linked.answers.get(at);
         if Some(answer) != other {

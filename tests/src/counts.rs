@@ -4,6 +4,7 @@
 use crate::acts::{self, ISSUED};
 use crate::call::{Call, Lengths};
 use crate::desk::{other_lengths, Answer, Desk, LOG_ROW, MOST_VERSIONS};
+use crate::groups::{self, is_on_one_row};
 use crate::notices;
 use crate::replay::Run;
 use crate::schedules;
@@ -23,6 +24,7 @@ pub fn called(tally: &mut Tally, desk: &mut Desk, call: &Call, lent: Lengths) ->
             _ => answer.number(),
         };
         acts::count(tally, list, before, call, number);
+        groups::count(tally, list, before, call, number);
     }
     match (&answer, &before) {
         (Answer::Refused(number), None) => {
@@ -42,6 +44,8 @@ pub fn called(tally: &mut Tally, desk: &mut Desk, call: &Call, lent: Lengths) ->
             notices::count(tally, before, call, 0);
             notices::assert_followed(before, &after, call);
             acts::assert_followed(desk.list(), before, &after);
+            groups::count_accepted(tally, before, &after, call);
+            groups::assert_followed(desk.list(), before, &after);
             count_accepted(tally, before, &after, call);
         }
     }
@@ -100,15 +104,9 @@ fn count_selection(tally: &mut Tally, after: &Month, point: &Point, gained: bool
     if full && !gained {
         tally.add("log full and no row due", 0);
     }
-    if gained && on_one_row(after, point) {
+    if gained && (1..=2).any(|run| is_on_one_row(after, run, point)) {
         tally.add("both sides on one row", point.kind);
     }
-}
-
-/// Whether a point adds its value to one row twice.
-fn on_one_row(month: &Month, point: &Point) -> bool {
-    let rows = month.rows_of(point);
-    (1..rows.len()).any(|at| rows[..at].iter().any(|row| row.0 == rows[at].0))
 }
 
 /// Who selects a version, with the statuses that it can have.
@@ -179,7 +177,7 @@ fn count_beside(tally: &mut Tally, run: u64, point: &Point, selected: &Version) 
     }
 }
 
-/// Counts the notices, closes and issues of a file that was run, and asserts what comes of its accepted calls.
+/// Counts the notices, assignments, closes and issues of a file that was run, and asserts what comes of its accepted calls.
 pub fn count_run(tally: &mut Tally, run: &Run) {
     let (list, mut accepted) = (run.desk.list(), 0);
     for (call, answer) in &run.answered {
@@ -192,9 +190,12 @@ pub fn count_run(tally: &mut Tally, run: &Run) {
         };
         notices::count(tally, &before, call, *answer);
         acts::count(tally, earlier, &before, call, *answer);
+        groups::count(tally, earlier, &before, call, *answer);
         if *answer == 0 {
             notices::assert_followed(&before, &after, call);
             acts::assert_followed(&list[..accepted], &before, &after);
+            groups::count_accepted(tally, &before, &after, call);
+            groups::assert_followed(&list[..accepted], &before, &after);
         }
     }
     acts::count_ended(tally, run);

@@ -26,7 +26,7 @@ pub struct Field {
 }
 
 /// Every field of the state.
-pub const FIELDS: [Field; 23] = [
+pub const FIELDS: [Field; 24] = [
     Field::of("quarters", quarters),
     Field::of("first delivery", first),
     Field::of("clearing", clearing),
@@ -36,7 +36,8 @@ pub const FIELDS: [Field; 23] = [
     Field::of("length of log", log),
     Field::of("length of schedules", schedules),
     Field::of("day", day),
-    Field::of("delta group", delta_group),
+    Field::of("delta group of run 1", delta_group_1),
+    Field::of("delta group of run 2", delta_group_2),
     Field::of("version count", version_count),
     Field::of("log rows used", log_rows),
     Field::of("run closed", closed),
@@ -82,7 +83,7 @@ pub fn undone(month: &Month, damage: &Damage) -> Damage {
         6 => lengths.book,
         7 => lengths.log,
         8 => month.day,
-        9 => month.groups[place as usize],
+        9 => month.groups.concat()[place as usize],
         10 => month.rows.len() as u64,
         11 => month.log.len() as u64,
         12 | 13 => closed[which as usize - 12].into(),
@@ -233,7 +234,16 @@ fn day(_: &Month) -> Limits {
     number(8, &[0, 400], &[401, 1 << 16, 1 << 32, u64::MAX])
 }
 
-fn delta_group(_: &Month) -> Limits {
+fn delta_group_1(_: &Month) -> Limits {
+    delta_groups(0)
+}
+
+fn delta_group_2(_: &Month) -> Limits {
+    delta_groups(DELTAS as u64)
+}
+
+/// The limits of 17 delta groups, from a place on.
+fn delta_groups(first: u64) -> Limits {
     let each = |values: &[u64]| {
         let at = |place| {
             let damage = move |&group: &u64| Damage {
@@ -243,7 +253,7 @@ fn delta_group(_: &Month) -> Limits {
             };
             values.iter().map(move |group| vec![damage(group)])
         };
-        (0..DELTAS as u64).flat_map(at).collect()
+        (first..first + DELTAS as u64).flat_map(at).collect()
     };
     Limits {
         inside: each(&[1, 64]),

@@ -97,7 +97,8 @@ impl Desk {
                 | Call::Submit { day, .. }
                 | Call::Notice { day, .. },
             ) => *day > month.correction,
-            (26, Call::Assign { day, .. } | Call::Lodge { day, .. }) => *day > month.clearing,
+            (26, Call::Assign { day, .. }) => *day > month.correction,
+            (26, Call::Lodge { day, .. }) => *day > month.clearing,
             (21, Call::Activate { .. }) => active.is_some(),
             (
                 22,

@@ -1,6 +1,6 @@
 //! A second implementation of document 01 and of document 02's calendar, statuses, notices, schedules, walk over the versions,
-//! and close and issue, written from the papers alone, and what its comparison with the proved libraries needs. The comparisons
-//! themselves stand in `tests/`, one file for each thing compared.
+//! close and issue, and delta groups for each run, written from the papers alone, and what its comparison with the proved
+//! libraries needs. The comparisons themselves stand in `tests/`, one file for each thing compared.
 //!
 //! | module | what it is |
 //! |---|---|
@@ -24,6 +24,7 @@
 //! | `counts` | which cases the compared calls and selected versions were |
 //! | `notices` | which cases the compared notices were, and what they come to on a desk that was fresh |
 //! | `acts` | which cases the compared closes and issues were, and what they come to on a desk that was fresh |
+//! | `groups` | which cases the compared assignments were, and the calls where the runs have other delta groups; what they come to on a desk that was fresh; what brings a desk's delta groups out |
 //! | `schedules` | which cases the compared lodgings and reports were, and what the deviations of all groups add up to |
 //! | `tally` | how often each answer was compared |
 
@@ -39,6 +40,7 @@ pub mod desk;
 pub mod figure;
 pub mod files;
 pub mod generator;
+pub mod groups;
 pub mod linked;
 pub mod message;
 pub mod months;

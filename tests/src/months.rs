@@ -23,6 +23,8 @@ pub enum Size {
     Quarters(u64),
     /// Some 85 calls in a month of so many quarter hours, of which mostly both runs are closed and issued.
     Issued(u64),
+    /// Some 100 calls in a month of so many quarter hours, in which mostly some deltas get another group in run 2.
+    Apart(u64),
 }
 
 /// Numbers at the ends of a field's range, beyond them, and such as a narrower number takes for others.
@@ -107,6 +109,7 @@ pub fn month(random: &mut Random, size: Size) -> Trial {
     let calls = match size {
         Size::Short | Size::Quarters(_) => 46 + random.below(47),
         Size::Issued(_) => 62 + random.below(47),
+        Size::Apart(_) => 76 + random.below(47),
         Size::Versions => 690 + random.below(40),
         Size::Points => 440 + random.below(260),
     };
@@ -216,7 +219,7 @@ pub fn refused(random: &mut Random, trial: &Trial, desk: &Desk, calls: usize) ->
 
 fn plan(random: &mut Random, size: Size) -> Plan {
     let quarters = match size {
-        Size::Quarters(quarters) | Size::Issued(quarters) => quarters,
+        Size::Quarters(quarters) | Size::Issued(quarters) | Size::Apart(quarters) => quarters,
         Size::Short => random.of(&[1, 1, 2, 2, 3, 4]),
         Size::Versions | Size::Points => random.of(&[1, 1, 1, 2]),
     };
@@ -234,7 +237,7 @@ fn plan(random: &mut Random, size: Size) -> Plan {
     let (rows, log_rows) = match size {
         Size::Versions => (512 + random.below(3), 600),
         Size::Points => (600, random.of(&[100, 512])),
-        Size::Issued(_) => (40, 40),
+        Size::Issued(_) | Size::Apart(_) => (40, 40),
         _ => (
             random.of(&[0, 3, 7, 40, 40, 40, 40, 600]),
             random.of(&[0, 1, 2, 4, 8, 40, 40, 40, 40]),
@@ -248,7 +251,11 @@ fn plan(random: &mut Random, size: Size) -> Plan {
     };
     let groups = (0..3 + random.below(4)).map(|_| 1 + random.below(64) as u64);
     let groups: Vec<u64> = groups.chain([1, 64]).collect();
-    let areas = (0..2 + random.below(3)).map(|_| 1 + random.below(16) as u64);
+    let others = match size {
+        Size::Apart(_) => 1,
+        _ => 2 + random.below(3),
+    };
+    let areas = (0..others).map(|_| 1 + random.below(16) as u64);
     let areas = areas.chain([1, 16]).collect();
     let points = match size {
         Size::Points => (1..=256).collect(),
@@ -294,10 +301,14 @@ fn days(random: &mut Random, size: Size, f: u64, c: u64, k: u64) -> Vec<u64> {
         Size::Versions => {}
         Size::Points => days.extend([0; 16]),
         Size::Issued(_) => days.extend([0, late, k + 1, k + 1, k + 1, k + 1]),
+        Size::Apart(_) => {
+            days.extend([0, 0, 0, c + 1, c + 1, c + 1, c + 1, late, late, late]);
+            days.extend([late, late, k - 1, k - 1, k - 1, k, k, k + 1, k + 1]);
+        }
         _ => days.push(0),
     }
-    days.extend([f + 1, f + 1, f + 1, middle, c, c, c]);
-    days.extend([c + 1, c + 1, late, late, k, k, k + 1, 400]);
+    days.extend([f + 1, f + 1, f + 1, middle, c - 1, c, c, c]);
+    days.extend([c + 1, c + 1, late, late, k - 1, k, k, k + 1, 400]);
     days.sort_unstable();
     days
 }

@@ -3,6 +3,7 @@
 use crate::acts::{state, CLOSED, ISSUED};
 use crate::call::{Call, Lengths};
 use crate::generator::Random;
+use crate::groups::{deltas, is_apart};
 use crate::months::{any_call, changed, Plan, Size};
 use crate::worked::{Month, Point, Version, GROUPS};
 
@@ -47,11 +48,12 @@ impl<'a> Pick<'a> {
             Size::Points if self.month.points.len() < 256 && self.planned == 0 => {
                 [1, 300, 1, 2, 1, 1, 1, 1, 1, 1, 1, 1]
             }
+            Size::Apart(_) => self.apart_weights(),
             _ if self.due().is_some() => [1, 1, 1, 6, 24, 2, 1, 1, 10, 1, 1, 3],
             _ if self.month.points.len() < 3 => [1, 40, 2, 12, 2, 4, 2, 2, 4, 4, 2, 4],
             _ if self.is_corrected() => match self.to_issue()[..] {
-                [] => [2, 4, 3, 44, 44, 3, 7, 8, 7, 3, 7, 7],
-                _ => [2, 4, 3, 34, 34, 3, 7, 8, 7, 3, 7, 36],
+                [] => [2, 4, 3, 44, 44, 8, 7, 8, 7, 3, 7, 7],
+                _ => [2, 4, 3, 34, 34, 8, 7, 8, 7, 3, 7, 36],
             },
             _ if self.month.closed[0] => [2, 4, 4, 10, 10, 5, 6, 7, 8, 6, 7, 24],
             _ => [2, 9, 8, 40, 28, 9, 7, 8, 8, 12, 9, 8],
@@ -77,6 +79,21 @@ impl<'a> Pick<'a> {
             Pick::issue,
         ];
         choose[number](self)
+    }
+
+    /// Of a month in which deltas get another group in run 2: many points early, and after C assignments, submissions and
+    /// notices.
+    fn apart_weights(&self) -> [usize; 12] {
+        let today = self.today();
+        if self.month.points.len() < 6 {
+            [1, 60, 1, 6, 1, 2, 1, 1, 1, 2, 1, 1]
+        } else if today <= self.month.clearing {
+            [1, 6, 2, 40, 12, 8, 3, 3, 3, 4, 3, 3]
+        } else if today <= self.month.correction {
+            [1, 2, 2, 46, 52, 30, 7, 3, 7, 4, 6, 8]
+        } else {
+            [2, 4, 3, 6, 6, 20, 6, 5, 14, 4, 6, 16]
+        }
     }
 
     /// A show, a report, a lodging or a status, with the lengths lent to it.
@@ -166,6 +183,9 @@ impl<'a> Pick<'a> {
 
     /// Kind, area and partner that stand together in the table of series.
     fn series(&mut self) -> (u64, u64, u64) {
+        if let (Size::Apart(_), false) = (self.plan.size, self.random.once_in(4)) {
+            return self.series_of_areas();
+        }
         let any = self.plan.size == Size::Points || self.random.once_in(4);
         let area = if any {
             1 + self.random.below(16) as u64
@@ -188,6 +208,20 @@ impl<'a> Pick<'a> {
             3 => (4, 0, group),
             4 => (5, area, 0),
             _ => (2, area, group),
+        }
+    }
+
+    /// The same of the plan's areas alone, with more exchanges between areas.
+    fn series_of_areas(&mut self) -> (u64, u64, u64) {
+        let [one, other] = [0; 2].map(|_| self.random.of(&self.plan.areas));
+        let group = self.random.of(&self.plan.groups);
+        match self.random.below(8) {
+            0 | 1 => (1, one, 0),
+            2 | 3 if one != other => (1, one.max(other), one.min(other)),
+            2..=4 => (3, one, 0),
+            5 => (4, 0, group),
+            6 => (5, one, 0),
+            _ => (2, one, group),
         }
     }
 
@@ -338,35 +372,63 @@ impl<'a> Pick<'a> {
 
     fn notice(&mut self) -> Call {
         let (point, version) = self.noticed();
+        let negative = match self.plan.size {
+            Size::Apart(_) => 3,
+            _ => 4,
+        };
         Call::Notice {
             point,
             version,
-            verdict: u64::from(!self.random.once_in(4)),
+            verdict: u64::from(!self.random.once_in(negative)),
             day: self.day(),
         }
     }
 
+    /// Mostly of a delta of an active point, of T too; sometimes to the group that the delta has in run 1, to another delta's, or to
+    /// the point's own; seldom with a number beside its range.
     fn assign(&mut self) -> Call {
-        let active = self.active().map(|(_, point)| (point.area, point.partner));
-        let (area, partner) = active.unwrap_or((0, 1));
-        Call::Assign {
-            area: match self.random.below(4) {
-                0 => self.random.below(17) as u64,
-                _ => area,
-            },
-            group: match self.random.below(4) {
-                0 => partner.max(1),
-                _ => self.random.of(&self.plan.groups),
-            },
-            day: self.day(),
-        }
+        let active = self.active().map(|(_, point)| point);
+        let deltas = active.map_or(vec![0], deltas);
+        let alike = deltas.iter().find(|delta| !is_apart(self.month, **delta));
+        let area = match self.random.below(12) {
+            0 | 1 => self.random.below(17),
+            2..=4 => 0,
+            5..=8 => alike.copied().unwrap_or(0),
+            _ => self.random.of(&deltas),
+        };
+        let [first, second] = self.month.groups;
+        let group = match self.random.below(12) {
+            0..=2 => active.map_or(1, |point| point.partner.max(1)),
+            3 | 4 => first[area],
+            5 => second[0],
+            6 => second[self.random.of(&deltas)],
+            _ => self.random.of(&self.plan.groups),
+        };
+        let area = area as u64;
+        let is_late = self.month.day > self.month.correction + 1;
+        let day = match self.random.once_in(3) {
+            true if is_late => self.month.day - 1,
+            _ => self.day_or_before(),
+        };
+        let (area, group, day) = match self.among(60) {
+            0 => (17, group, day),
+            1 => (area, self.random.of(&[0, 65]), day),
+            2 => (area, group, 401),
+            _ => (area, group, day),
+        };
+        Call::Assign { area, group, day }
     }
 
-    /// Mostly one of the plan's groups, seldom one beside the range.
+    /// Mostly one of the plan's groups, seldom one beside the range. Where a delta's group of run 2 is another than run 1's, often
+    /// one of the two.
     fn group(&mut self) -> u64 {
+        let [first, second] = &self.month.groups;
+        let deltas = first.iter().zip(second).filter(|(one, other)| one != other);
+        let apart: Vec<u64> = deltas.flat_map(|(one, other)| [*one, *other]).collect();
         match (self.among(60), self.random.below(4)) {
             (0, _) => self.random.of(&[0, 65]),
             (_, 0) => 1 + self.random.below(64) as u64,
+            (_, 1 | 2) if !apart.is_empty() => self.random.of(&apart),
             _ => self.random.of(&self.plan.groups),
         }
     }

@@ -1,6 +1,6 @@
 //! A second replay: a whole message file through the plain desk, call by call, and what it leaves in every store.
 
-use crate::call::{Call, Lengths};
+use crate::call::{Call, Lengths, DELTAS};
 use crate::compare::stores_after;
 use crate::desk::Desk;
 use crate::generator::Random;
@@ -9,8 +9,12 @@ use crate::script::Stores;
 use crate::worked::GROUPS;
 
 /// Places of a summary: calls answered, offset, quarter hours, log rows used, versions held, calls refused, the first of
-/// them, the day, whether run 1 and run 2 are closed, whether run 1 and run 2 are issued.
-pub const SUMMARY: usize = 12;
+/// them, the day, whether run 1 and run 2 are closed, whether run 1 and run 2 are issued, the delta groups of run 1, those of
+/// run 2.
+pub const SUMMARY: usize = DELTA_GROUPS + 2 * DELTAS;
+
+/// The first place of a summary that has a delta group: run 1's of T.
+pub const DELTA_GROUPS: usize = 12;
 
 /// Places of a point: active, since, kind, area, partner, the version of run 1, that of run 2, the status of run 1's
 /// version, that of run 2's.
@@ -247,6 +251,7 @@ fn summary_of(run: &Run) -> [u64; SUMMARY] {
         summary[9] = month.closed[1].into();
         summary[10] = month.issued[0].into();
         summary[11] = month.issued[1].into();
+        summary[DELTA_GROUPS..].copy_from_slice(&month.groups.concat());
     }
     summary
 }

@@ -1,6 +1,6 @@
 //! Scripts: calls as numbers in a slice, the form in which `test_drive` takes them, and what a run of one gives.
 
-use crate::call::{Call, Lengths};
+use crate::call::{Call, Lengths, DELTAS};
 use crate::generator::Random;
 use crate::linked;
 use std::fmt;
@@ -19,7 +19,7 @@ pub const STATUS_FROM: u64 = 100;
 pub struct Damage {
     /// The field.
     pub which: u64,
-    /// Its place in a table, else 0.
+    /// Its place in a table, else 0. Run 1's delta groups have places 0 to 16, run 2's 17 to 33.
     pub place: u64,
     /// The field's new value, or those of a record's fields.
     pub to: [u64; 4],
@@ -103,7 +103,10 @@ impl fmt::Display for Damage {
         let Damage { which, place, to } = self;
         let name = NAMES.get(*which as usize).unwrap_or(&NAMES[0]);
         match which {
-            9 => write!(f, "damage {name} {place} = {}", to[0]),
+            9 => {
+                let (run, delta) = (1 + place / DELTAS as u64, place % DELTAS as u64);
+                write!(f, "damage {name} {delta} of run {run} = {}", to[0])
+            }
             14 => write!(f, "damage {name} {place}"),
             15 | 16 => write!(f, "damage {name} {place} = {to:?}"),
             _ => write!(f, "damage {name} = {}", to[0]),

@@ -85,8 +85,8 @@ pub struct Month<'a> {
     pub lengths: Lengths,
     /// The desk's day.
     pub day: u64,
-    /// The groups of the deltas: T, areas 1 to 16.
-    pub groups: [u64; DELTAS],
+    /// The groups of the deltas in run 1 and in run 2: T, areas 1 to 16.
+    pub groups: [[u64; DELTAS]; 2],
     /// The active points by their numbers.
     pub points: BTreeMap<u64, Point>,
     /// The submitted series in their order: the used rows of values.
@@ -131,7 +131,7 @@ impl<'a> Month<'a> {
             correction,
             lengths,
             day: 0,
-            groups,
+            groups: [groups; 2],
             points: BTreeMap::new(),
             rows: Vec::new(),
             closed: [false; 2],
@@ -190,7 +190,7 @@ impl<'a> Month<'a> {
                 let noticed = versions.iter_mut().find(|v| v.number == version);
                 noticed.expect("a version").status = status;
             }
-            Call::Assign { area, group, .. } => self.groups[area as usize] = group,
+            Call::Assign { area, group, day } => self.assign(area, group, day),
             Call::Close { run, .. } => self.closed[run as usize - 1] = true,
             Call::Issue { run, .. } => self.issue(run),
             Call::Lodge {
@@ -219,6 +219,15 @@ impl<'a> Month<'a> {
         self.points.get_mut(&point).expect("an active point")
     }
 
+    /// Up to day C both runs have the group for the delta, after it run 2 alone.
+    fn assign(&mut self, area: u64, group: u64, day: u64) {
+        let [first, second] = &mut self.groups;
+        second[area as usize] = group;
+        if day <= self.clearing {
+            first[area as usize] = group;
+        }
+    }
+
     /// Each selected version of run 1 gets 3, each own one of run 2 gets 5.
     fn issue(&mut self, run: u64) {
         self.issued[run as usize - 1] = true;
@@ -244,13 +253,14 @@ impl<'a> Month<'a> {
         self.points.get(&point)?.version(number)
     }
 
-    /// The rows that a point adds its value to, each with the sign, by the table of series. A delta is its own row
-    /// and that of its delta group.
-    pub fn rows_of(&self, point: &Point) -> Vec<(usize, i128)> {
+    /// The rows that a point adds its value to in a run, each with the sign, by the table of series. A delta is its own row
+    /// and that of its delta group in the run.
+    pub fn rows_of(&self, run: u64, point: &Point) -> Vec<(usize, i128)> {
+        let groups = &self.groups[run as usize - 1];
         let group = |number: u64, sign| vec![(number as usize - 1, sign)];
         let delta = |number: u64, sign| {
             let own = DELTA + number as usize;
-            let group = self.groups[number as usize] as usize - 1;
+            let group = groups[number as usize] as usize - 1;
             vec![(own, sign), (group, sign)]
         };
         let Point { area, partner, .. } = *point;
@@ -277,7 +287,7 @@ impl<'a> Month<'a> {
         let quarters = self.quarters as usize;
         let mut figures = vec![0; ROWS * quarters];
         for (_, point, version) in self.selected(run) {
-            for (row, sign) in self.rows_of(point) {
+            for (row, sign) in self.rows_of(run, point) {
                 let row = &mut figures[row * quarters..][..quarters];
                 for (figure, &energy) in row.iter_mut().zip(self.rows[version.row]) {
                     *figure += sign * signed(energy);

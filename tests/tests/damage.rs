@@ -1,13 +1,16 @@
 //! Cause 1: each field of the desk's state at the last value inside its limits and at the first outside them; notices on
-//! versions that somebody else wrote; and closes and issues of runs whose flags somebody else wrote.
+//! versions that somebody else wrote; closes and issues of runs whose flags somebody else wrote; and figures by delta groups that
+//! somebody else wrote.
 
-use emorizugu_tests::call::{Call, Lengths};
+use emorizugu_tests::call::{Call, Lengths, DELTAS};
 use emorizugu_tests::compare::{compare, expected, Step, Trial};
 use emorizugu_tests::damage::{undone, Field, FIELDS};
 use emorizugu_tests::desk::Desk;
-use emorizugu_tests::script::{self, Damage, Record};
+use emorizugu_tests::groups::brought_out;
+use emorizugu_tests::script::{self, Damage, Outcome, Record};
 use emorizugu_tests::tally::Tally;
-use emorizugu_tests::worked::Month;
+use emorizugu_tests::worked::{Month, ROWS};
+use std::slice;
 
 /// The stores' lengths: four rows of values and a place more, five rows of the log.
 const LENT: Lengths = Lengths {
@@ -18,7 +21,7 @@ const LENT: Lengths = Lengths {
 };
 
 /// The calls of the month.
-const CALLS: [&[u64]; 20] = [
+const CALLS: [&[u64]; 21] = [
     &[
         1, 2, 10, 30, 150, 4, 1, 2, 3, 3, 3, 3, 3, 3, 3, 3, 3, 3, 3, 3, 3, 3,
     ],
@@ -36,6 +39,7 @@ const CALLS: [&[u64]; 20] = [
     &[5, 1, 6, 1, 31],
     &[9, 1, 31],
     &[12, 1, 32],
+    &[6, 1, 9, 33],
     &[7, 2, 5],
     &[11, 2, 5],
     &[9, 2, 151],
@@ -173,7 +177,8 @@ fields! {
     length_of_log "length of log"
     length_of_schedules "length of schedules"
     day "day"
-    delta_group "delta group"
+    delta_group_of_run_1 "delta group of run 1"
+    delta_group_of_run_2 "delta group of run 2"
     version_count "version count"
     log_rows_used "log rows used"
     run_closed "run closed"
@@ -232,6 +237,7 @@ fn no_quarters() {
         }
 
         let garbage = (2..=19).map(|which| set(which, 3, [u64::MAX; 4]));
+        let garbage = garbage.chain([set(9, 20, [u64::MAX; 4])]);
         let mut records = plain.records[..calls].to_vec();
         records.extend(garbage.chain([set(1, 0, [0; 4])]));
         records.extend(plain.records.iter().cloned());
@@ -475,4 +481,218 @@ fn close_and_issue_set_a_flag_and_the_day() {
     ];
     let answers = vec![38, 0, 39, 0, 0];
     assert_eq!(acted(issued, &asked), (answers, [2, 1, 5]));
+}
+
+fn delta_group(place: u64, group: u64) -> Record {
+    Record::Damage(Damage {
+        which: 9,
+        place,
+        to: [group, 0, 0, 0],
+    })
+}
+
+/// The book of the month when its delta groups are brought out behind the first calls, and what is put in front of that; and the
+/// book that it has to be by these groups.
+fn groups_told(calls: usize, put: &[Record], groups: [[u64; DELTAS]; 2]) -> [Vec<u64>; 2] {
+    let mut trial = month();
+    trial.steps.truncate(calls);
+    let plain = expected(&trial, &mut Tally::new());
+    let mut opened = plain.desk.month().expect("an open desk");
+    opened.groups = groups;
+    let mut book = plain.outcome.stores.book.clone();
+    let told = brought_out(&opened, &mut book);
+    let records = [&plain.records[..], put, &told].concat();
+    [script::run(&records, trial.stores()).stores.book, book]
+}
+
+/// Each place of the 34 is the group of one delta in one run: it has what somebody else wrote, and the others stay.
+#[test]
+fn each_delta_group_has_a_place_of_its_own() {
+    for calls in [1, 9, 16, CALLS.len()] {
+        let desk = desk(calls);
+        let groups = desk.month().expect("an open desk").groups;
+        let [_, before] = groups_told(calls, &[], groups);
+        for place in 0..2 * DELTAS {
+            for group in [33, 64] {
+                let mut written = groups;
+                written[place / DELTAS][place % DELTAS] = group;
+                let damage = delta_group(place as u64, group);
+                let [linked, book] = groups_told(calls, &[damage], written);
+                assert_eq!(linked, book, "after {calls} calls, place {place}");
+                assert_ne!(linked, before, "after {calls} calls, place {place}");
+            }
+        }
+    }
+}
+
+/// A number at place 34 or behind it is none of the desk: every call is answered as without it, and the delta groups stay.
+#[test]
+fn there_are_34_delta_groups() {
+    for calls in 1..=CALLS.len() {
+        let trial = month();
+        let plain = expected(&trial, &mut Tally::new());
+        let desk = desk(calls);
+        let groups = desk.month().expect("an open desk").groups;
+        for place in [34, 35, 50, 51, 289, 1 << 32, 1 << 63, u64::MAX] {
+            for group in [0, 33, 65, u64::MAX] {
+                let damage = delta_group(place, group);
+                let mut records = plain.records.clone();
+                records.insert(calls, damage.clone());
+                let linked = script::run(&records, trial.stores());
+                assert_eq!(linked, plain.outcome, "after {calls} calls, {damage}");
+                let [linked, book] = groups_told(calls, slice::from_ref(&damage), groups);
+                assert_eq!(linked, book, "after {calls} calls, {damage}");
+            }
+        }
+    }
+}
+
+/// A series: kind, area and partner; the deltas that it adds to, T being 0, each with the sign; and the group.
+type Series = ([u64; 3], &'static [(usize, i64)], Option<usize>);
+
+const EACH_SERIES: [Series; 6] = [
+    ([1, 5, 0], &[(5, 1)], None),
+    ([1, 5, 2], &[(5, 1), (2, -1)], None),
+    ([2, 5, 61], &[(5, -1)], Some(61)),
+    ([3, 5, 0], &[(5, -1), (0, 1)], None),
+    ([4, 0, 61], &[(0, -1)], Some(61)),
+    ([5, 5, 0], &[(5, 1), (0, -1)], None),
+];
+
+/// Run 1 has group 1 for T and 2 to 17 for the areas, run 2 has 21 for T and 22 to 37, as somebody else wrote.
+fn written_groups() -> [[u64; DELTAS]; 2] {
+    [1, 21].map(|first| std::array::from_fn(|delta| first + delta as u64))
+}
+
+/// The book of two quarter hours where a series has 100 and -7 in these runs.
+fn book_of((_, deltas, group): Series, groups: [[u64; DELTAS]; 2], runs: [bool; 2]) -> Vec<u64> {
+    let mut book = vec![0; 4 * ROWS];
+    let mut add = |run: usize, row: usize, sign: i64| {
+        for (quarter, energy) in [100, -7].into_iter().enumerate() {
+            let place = &mut book[2 * (run * ROWS + row) + quarter];
+            *place = (*place as i64 + sign * energy) as u64;
+        }
+    };
+    for run in (0..2).filter(|&run| runs[run]) {
+        for &(delta, sign) in deltas {
+            add(run, 64 + delta, sign);
+            add(run, groups[run][delta] as usize - 1, sign);
+        }
+        if let Some(group) = group {
+            add(run, group - 1, 1);
+        }
+    }
+    book
+}
+
+/// The book of the linked desk behind an opening, damage to its 34 delta groups, the activation of point 1 and calls.
+fn book_behind(series: [u64; 3], calls: &[&[u64]]) -> Vec<u64> {
+    let [kind, area, partner] = series;
+    let record = |numbers: &[u64]| Record::Call(call(numbers), LENT);
+    let mut records = vec![record(CALLS[0])];
+    let written = (0..).zip(written_groups().concat());
+    records.extend(written.map(|(place, group)| delta_group(place, group)));
+    records.push(record(&[2, 1, kind, area, partner, 0]));
+    records.extend(calls.iter().map(|numbers| record(numbers)));
+    let Outcome { answers, stores } = script::run(&records, month().stores());
+    assert!(
+        answers.concat().iter().all(|&answer| answer == 0),
+        "{calls:?}"
+    );
+    stores.book
+}
+
+/// Submissions by F and notices by C change both runs, each by its own groups, which no desk that was fresh has apart then; a notice
+/// after C changes run 2 by its own.
+#[test]
+fn each_series_goes_to_the_groups_of_its_run() {
+    let minus_7 = (-7_i64) as u64;
+    let by_first: &[&[u64]] = &[&[4, 1, 1, 10, 100, minus_7]];
+    let by_clearing: &[&[u64]] = &[&[4, 1, 1, 11, 100, minus_7], &[5, 1, 1, 1, 30]];
+    let after_clearing: &[&[u64]] = &[&[4, 1, 1, 11, 100, minus_7], &[5, 1, 1, 1, 31]];
+    let replaced: &[&[u64]] = &[
+        &[4, 1, 1, 10, 5, 6],
+        &[4, 1, 2, 11, 100, minus_7],
+        &[5, 1, 2, 1, 30],
+    ];
+    for series in EACH_SERIES {
+        for (calls, runs) in [
+            (by_first, [true, true]),
+            (by_clearing, [true, true]),
+            (after_clearing, [false, true]),
+            (replaced, [true, true]),
+        ] {
+            let book = book_of(series, written_groups(), runs);
+            let why = format!("{:?}, {calls:?}", series.0);
+            assert_eq!(book_behind(series.0, calls), book, "{why}");
+        }
+    }
+}
+
+/// An assignment takes the delta from the group that it has in each run: up to C from both, after it from run 2's.
+#[test]
+fn an_assignment_goes_by_the_groups_of_its_run() {
+    let submitted: &[u64] = &[4, 1, 1, 10, 100, (-7_i64) as u64];
+    for series in EACH_SERIES {
+        for &(delta, _) in series.1 {
+            for (day, runs) in [
+                (30, [true, true]),
+                (31, [false, true]),
+                (150, [false, true]),
+            ] {
+                let mut groups = written_groups();
+                for run in (0..2).filter(|&run| runs[run]) {
+                    groups[run][delta] = 60;
+                }
+                let assigned = [6, delta as u64, 60, day];
+                let book = book_of(series, groups, [true, true]);
+                let why = format!("{:?}, {assigned:?}", series.0);
+                let given = book_behind(series.0, &[submitted, &assigned]);
+                assert_eq!(given, book, "{why}");
+            }
+        }
+    }
+}
+
+/// What is closed and issued counts for nothing, and the deadline goes by the day alone: an assignment with any flags is accepted up
+/// to K and 26 behind it.
+#[test]
+fn an_assignment_goes_by_its_day_alone() {
+    for [closed, issued] in every_flags() {
+        for (day, answer) in [
+            (11, 0),
+            (30, 0),
+            (31, 0),
+            (150, 0),
+            (151, 26),
+            (400, 26),
+            (10, 5),
+        ] {
+            for area in [0, 1, 16] {
+                let given = assigned_with([closed, issued], [6, area, 7, day]);
+                assert_eq!(
+                    given, answer,
+                    "area {area}, day {day}, {closed:?}, {issued:?}"
+                );
+            }
+        }
+    }
+}
+
+/// The answer to an assignment on a desk of day 11 with such flags.
+fn assigned_with([closed, issued]: Flags, assigned: [u64; 4]) -> u64 {
+    let flag = |(which, value): (u64, bool)| {
+        Record::Damage(Damage {
+            which,
+            place: 0,
+            to: [value.into(), 0, 0, 0],
+        })
+    };
+    let flags = [12, 13, 18, 19].into_iter().zip([closed, issued].concat());
+    let record = |numbers: &[u64]| Record::Call(call(numbers), LENT);
+    let mut records = vec![record(CALLS[0]), record(&[2, 1, 1, 1, 0, 11])];
+    records.extend(flags.map(flag));
+    records.push(record(&assigned));
+    let answers = script::run(&records, month().stores()).answers;
+    answers.last().expect("answers")[0]
 }

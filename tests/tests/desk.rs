@@ -1,5 +1,5 @@
-//! The desk: both desks on months of calls from a seed, on every number at the ends of its range, on calls that are refused,
-//! and where somebody else writes in the stores.
+//! The desk: both desks on months of calls from a seed, their delta groups included, on every number at the ends of its range, on
+//! calls that are refused, and where somebody else writes in the stores.
 
 use emorizugu_tests::acts;
 use emorizugu_tests::call::{Call, Lengths};
@@ -7,6 +7,7 @@ use emorizugu_tests::compare::{compare, expected, Step, Trial};
 use emorizugu_tests::damage::FIELDS;
 use emorizugu_tests::desk::CAUSES;
 use emorizugu_tests::generator::Random;
+use emorizugu_tests::groups;
 use emorizugu_tests::linked;
 use emorizugu_tests::months::{self, Size, BEYOND, ENDS};
 use emorizugu_tests::notices::{FULL_LOG, NOTICES};
@@ -25,6 +26,9 @@ const LEAST: u64 = 500;
 
 /// How often each case of lodgings and reports, and of closes and issues, is to have been compared at least.
 const LEAST_CASES: u64 = 100;
+
+/// How often each case of assignments, and of calls where the runs have other delta groups, is to have been compared at least.
+const LEAST_GROUPS: u64 = 200;
 
 /// The answers of each call to an open desk, but for an accepted status.
 const ANSWERS: [(&str, &[u64]); 12] = [
@@ -87,8 +91,9 @@ fn cut(trial: &Trial, steps: usize) -> Trial {
 fn months_agree() {
     let (mut random, mut tally) = (Random::new(5), Tally::new());
     for _ in 0..MONTHS {
-        let size = match random.below(4) {
-            0 => Size::Issued(1 + random.below(4) as u64),
+        let size = match random.below(16) {
+            0..=3 => Size::Issued(1 + random.below(4) as u64),
+            4..=6 => Size::Apart(1 + random.below(4) as u64),
             _ => Size::Short,
         };
         let month = months::month(&mut random, size);
@@ -105,6 +110,11 @@ fn months_agree() {
     let cases = cases.chain(acts::CASES).chain(acts::BETWEEN);
     for (what, numbers) in cases {
         tally.demand(what, numbers, LEAST_CASES);
+    }
+    let cases = groups::DAYS.into_iter().chain(groups::CASES);
+    let cases = cases.chain(groups::APART).chain(groups::SIDES);
+    for (what, numbers) in cases.chain(groups::ASKED) {
+        tally.demand(what, numbers, LEAST_GROUPS);
     }
     for field in FIELDS.iter().filter(|field| !WIDE.contains(&field.name)) {
         assert!(tally.all(field.name) >= LEAST, "damage to {}", field.name);
@@ -214,7 +224,7 @@ fn accepted() -> Trial {
         log: 20,
         schedules: 128,
     };
-    let fields: [&[u64]; 27] = [
+    let fields: [&[u64]; 29] = [
         &[
             1, 2, 10, 30, 150, 4, 1, 2, 3, 3, 3, 3, 3, 3, 3, 3, 3, 3, 3, 3, 3, 3,
         ],
@@ -242,6 +252,8 @@ fn accepted() -> Trial {
         &[5, 2, 3, 1, 31],
         &[9, 1, 31],
         &[12, 1, 31],
+        &[6, 16, 3, 31],
+        &[6, 0, 9, 150],
         &[9, 2, 151],
         &[12, 2, 152],
     ];

@@ -11,6 +11,7 @@ use emorizugu_tests::counts;
 use emorizugu_tests::desk::MOST_VERSIONS;
 use emorizugu_tests::files::{self, Parts};
 use emorizugu_tests::generator::{Random, Shape};
+use emorizugu_tests::groups;
 use emorizugu_tests::message::MOST_ENERGIES;
 use emorizugu_tests::months::{self, Size};
 use emorizugu_tests::notices;
@@ -22,7 +23,7 @@ use std::env;
 use std::ffi::OsString;
 
 /// Files of at most some thousand bytes.
-const FILES: u64 = 4_000;
+const FILES: u64 = 6_000;
 
 /// Files about as long as the program reads, and longer.
 const LONG: u64 = 200;
@@ -35,6 +36,9 @@ const LEAST_STATUS: u64 = 300;
 
 /// How often each case of closes and issues is to have been compared at least.
 const LEAST_ACTS: u64 = 10;
+
+/// How often each case of assignments, and of calls where the runs have other delta groups, is to have been compared at least.
+const LEAST_GROUPS: u64 = 200;
 
 /// The program that `EMORIZUGU_PROGRAM` names.
 fn named_program() -> OsString {
@@ -205,7 +209,8 @@ fn the_program_prints_what_the_documents_say() {
     for _ in 0..FILES {
         let size = match random.below(200) {
             0 => Size::Versions,
-            1..=120 => Size::Issued(quarters(&mut random)),
+            1..=80 => Size::Issued(quarters(&mut random)),
+            81..=170 => Size::Apart(quarters(&mut random)),
             _ => Size::Quarters(quarters(&mut random)),
         };
         let month = months::month(&mut random, size);
@@ -255,6 +260,13 @@ fn the_program_prints_what_the_documents_say() {
     }
     for (what, numbers) in acts::CASES.into_iter().chain(acts::BETWEEN_OF_FILES) {
         tally.demand(what, numbers, LEAST_ACTS);
+    }
+    let cases = groups::DAYS.into_iter().chain(groups::CASES);
+    for (what, numbers) in cases.chain(groups::APART) {
+        tally.demand(what, numbers, LEAST_GROUPS);
+    }
+    for (what, numbers) in groups::SIDES {
+        tally.demand(what, numbers, LEAST);
     }
     assert!(tally.count("notice", 37) >= LEAST_STATUS);
     for number in [0, 38, 39] {

@@ -8,6 +8,7 @@ use emorizugu_tests::counts;
 use emorizugu_tests::desk::{Desk, MOST_VERSIONS};
 use emorizugu_tests::files::{self, Parts};
 use emorizugu_tests::generator::{Random, Shape};
+use emorizugu_tests::groups;
 use emorizugu_tests::linked;
 use emorizugu_tests::message::{self, MOST_ENERGIES};
 use emorizugu_tests::months::{self, Size, SPARE};
@@ -20,13 +21,16 @@ use emorizugu_tests::tally::Tally;
 use emorizugu_tests::worked::GROUPS;
 
 /// Files that are compared.
-const FILES: u64 = 16_000;
+const FILES: u64 = 24_000;
 
 /// How often each ending and each case is to have been compared at least.
 const LEAST: u64 = 100;
 
 /// How often each status of a selected version is to have been compared at least.
 const LEAST_STATUS: u64 = 500;
+
+/// How often each case of assignments, and of calls where the runs have other delta groups, is to have been compared at least.
+const LEAST_GROUPS: u64 = 200;
 
 /// Words on both sides of a lent store.
 const FENCE: [u64; 4] = [0x5eed_5eed_5eed_5eed; 4];
@@ -365,8 +369,9 @@ fn files_of_months_agree() {
     let (mut random, mut tally) = (Random::new(11), Tally::new());
     for _ in 0..FILES {
         let quarters = random.of(&[1, 1, 1, 2, 2, 3, 4, 8]);
-        let size = match random.below(3) {
-            0 => Size::Issued(quarters),
+        let size = match random.below(8) {
+            0 | 1 => Size::Issued(quarters),
+            2..=4 => Size::Apart(quarters),
             _ => Size::Quarters(quarters),
         };
         let (case, shape) = case(&mut random, size);
@@ -382,7 +387,7 @@ fn files_of_months_agree() {
     tally.demand("count above the series buffer", &[35], LEAST);
     tally.demand("the answers are full", &[35], LEAST);
     tally.demand("as the file's verdict", &[0, 31, 32, 33, 34], LEAST);
-    tally.demand("summary's places", &[0, 11, 12, 16], LEAST);
+    tally.demand("summary's places", &[0, 45, 46, 50], LEAST);
     tally.demand("points' places", &[0, 2_303, 2_304, 2_307], LEAST);
     tally.demand("versions' places", &[0, 2_047, 2_048, 2_053], LEAST);
     tally.demand("series buffer", &[0, 1, 2, 3, 4, 5, 7, 8, 9, 2_980], 20);
@@ -429,6 +434,13 @@ fn files_of_months_agree() {
     }
     for (what, numbers) in acts::CASES.into_iter().chain(acts::BETWEEN_OF_FILES) {
         tally.demand(what, numbers, 50);
+    }
+    let cases = groups::DAYS.into_iter().chain(groups::CASES);
+    for (what, numbers) in cases.chain(groups::APART) {
+        tally.demand(what, numbers, LEAST_GROUPS);
+    }
+    for (what, numbers) in groups::SIDES {
+        tally.demand(what, numbers, LEAST);
     }
     tally.demand("active, and no version selected", &[1, 2], LEAST_STATUS);
     tally.demand("room for no answer", &[0, 35], 20);
@@ -501,9 +513,9 @@ fn full_tables_agree() {
     }
 }
 
-/// A file of eight calls that are all accepted.
+/// A file of nine calls that are all accepted.
 fn accepted() -> Parts {
-    let fields: [&[u64]; 8] = [
+    let fields: [&[u64]; 9] = [
         &[
             1, 2, 10, 30, 150, 4, 1, 2, 3, 3, 3, 3, 3, 3, 3, 3, 3, 3, 3, 3, 3, 3,
         ],
@@ -514,6 +526,7 @@ fn accepted() -> Parts {
         &[5, 1, 6, 1, 31],
         &[9, 1, 31],
         &[12, 1, 32],
+        &[6, 1, 63, 33],
     ];
     let call = |numbers: &&[u64]| {
         let call = Call::of(numbers[0], &numbers[1..]).expect("a call");
@@ -533,7 +546,7 @@ fn accepted_case() -> Case {
             schedules: 2 * GROUPS + 1,
         },
         series: 2,
-        answers: 9,
+        answers: 10,
         tables: TABLES,
         seed: 13,
     }
@@ -544,7 +557,7 @@ fn accepted_case() -> Case {
 fn every_cut_agrees() {
     let (case, mut tally) = (accepted_case(), Tally::new());
     for end in 0..=case.file().len() {
-        for answers in 0..=10 {
+        for answers in 0..=11 {
             for series in 0..=3 {
                 let case = Case {
                     parts: files::cut(accepted(), end),
@@ -590,7 +603,7 @@ fn every_length_agrees() {
             compare(lengths, SUMMARY);
         }
     }
-    for summary in 0..=14 {
+    for summary in 0..=SUMMARY + 2 {
         compare(case.lengths, summary);
     }
     tally.print();
@@ -643,7 +656,11 @@ fn the_example_leaves_what_document_01_says() {
     after.series[0] = 1000;
     after.answers[..4].copy_from_slice(&[0, 0, 0, 14]);
     let [summary, points, versions] = &mut after.tables;
-    summary[..SUMMARY].copy_from_slice(&[4, 43, 1, 1, 1, 1, 4, 2, 0, 0, 0, 0]);
+    summary[..12].copy_from_slice(&[4, 43, 1, 1, 1, 1, 4, 2, 0, 0, 0, 0]);
+    for run in [12, 29] {
+        summary[run..run + 3].copy_from_slice(&[4, 1, 2]);
+        summary[run + 3..run + 17].fill(3);
+    }
     points.fill(0);
     points[..9].copy_from_slice(&[1, 0, 1, 1, 0, 7, 7, 2, 2]);
     versions[..4].copy_from_slice(&[1, 7, 2, 0]);

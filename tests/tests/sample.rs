@@ -344,7 +344,7 @@ fn run_2_selects_its_own_or_what_run_1_selects() {
 #[test]
 fn a_refused_call_does_not_move_the_day() {
     let mut desk = sample();
-    let calls: [(&[u64], u64); 8] = [
+    let calls: [(&[u64], u64); 9] = [
         (&[4, 1, 1, 9, 5, 5], 14),
         (&[4, 99, 1, 9, 5, 5], 12),
         (&[3, 1, 9], 23),
@@ -352,7 +352,8 @@ fn a_refused_call_does_not_move_the_day() {
         (&[2, 9, 1, 1, 0, 9], 22),
         (&[9, 1, 9], 27),
         (&[12, 1, 9], 38),
-        (&[6, 1, 1, 31], 26),
+        (&[6, 1, 1, 151], 26),
+        (&[10, 1, 31, 5, 5], 26),
     ];
     for (call, number) in calls {
         assert_eq!(give(&mut desk, call), number, "{call:?}");

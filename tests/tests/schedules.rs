@@ -2,7 +2,7 @@
 //! and with the linked one.
 
 use emorizugu_tests::call::{Call, Lengths};
-use emorizugu_tests::compare::{expected, Expected, Step, Trial};
+use emorizugu_tests::compare::{difference, expected, Expected, Step, Trial};
 use emorizugu_tests::script::{self, Outcome, Stores, Write};
 use emorizugu_tests::tally::Tally;
 
@@ -568,6 +568,7 @@ fn the_linked_desk_answers_the_lists() {
         let linked = script::run(&plain.records, list.trial().stores());
         list.compare(&linked);
         assert_eq!(linked, plain.outcome, "{}", list.why);
+        assert_eq!(difference(&list.trial(), &plain), None, "{}", list.why);
     }
 }
 

@@ -4,15 +4,13 @@ use mathlib.Core.Bool.{true}
 use mathlib.Core.List.{List}
 use Prim.Native.Nat.{ℕ, _+_, _*_, _^_, _≤_, _<_}
 use lib.ListN.{length}
-use Rattle.quantity.specs.Limits.{runs, runRows, bookRows, mostQuarters, groupOk}
-use Rattle.quantity.specs.Lists.{all}
-use Rattle.state.specs.Valid.{stateOk}
+use Rattle.quantity.specs.Limits.{runs, runRows, bookRows, mostQuarters}
+use Rattle.state.specs.Valid.{stateOk, deltasOk}
 use Rattle.state.specs.declared.Frame.{Frame}
 use Rattle.state.specs.declared.PointState.{PointState}
 use Rattle.state.specs.declared.Selection.{Selection}
 use Rattle.state.specs.declared.Selection.the-variants.{None, Selected}
 use Rattle.model.specs.Log.{logged, usedAfter}
-use Rattle.model.specs.Series.{sidesOf}
 use Rattle.model.specs.Step.{amendBy}
 use Rattle.model.specs.declared.Due.{Due}
 use Rattle.model.specs.declared.Due.the-variants.{Nothing, Row}
@@ -64,13 +62,13 @@ MoreIn n (Row r) = n + 1 < 2 ^ 64
 -- a change of a point's versions, and the stores that are to follow
 pub record Changed (f : Frame) (here : PointState) (values book : List ℕ) (t : Turn) : Type 0 where
   pub few : f .opening .quarters ≤ mostQuarters
-  pub allotted : all groupOk (f .groups) ≡ true
+  pub allotted : deltasOk (f .groups) ≡ true
   pub fit : stateOk here ≡ true
   pub whole : length book ≡ bookRows * f .opening .quarters
   pub turn : TurnIn (f .opening .quarters) values t
 
 -- the book, the log and its rows in use after the change
 pub record Followed (f : Frame) (here : PointState) (t : Turn) (due : Due) (values book log : List ℕ) (r : ℕ) (book′ log′ : List ℕ) : Type 0 where
-  pub booked : book′ ≡ amendBy (f .opening .quarters) (sidesOf (f .groups) here) t values book
+  pub booked : book′ ≡ amendBy (f .opening .quarters) (f .groups) here t values book
   pub noted : log′ ≡ logged (f .used) due log
   pub counted : r ≡ usedAfter due (f .used)

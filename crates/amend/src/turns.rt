@@ -2,7 +2,6 @@
 use crate::log::put_row;
 use crate::log::used_after;
 use crate::runs::amend;
-use crate::sides::sides_of;
 use model::Due;
 use model::Turn;
 use state::Frame;
@@ -25,8 +24,7 @@ pub fn follow(
 {
     let opening = f.opening;
     let groups = f.groups;
-    let sides = sides_of(groups, here);
-    amend(sides, t, opening.quarters as usize, values, book);
+    amend(groups, here, t, opening.quarters as usize, values, book);
     put_row(log, f.used as usize, due);
     used_after(due, f.used)
 }

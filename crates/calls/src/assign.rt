@@ -1,4 +1,4 @@
-// Assign: a delta moves to another group, in both runs.
+// Assign: a delta moves to another group, up to day C in both runs and after it in run 2 only.
 use amend::delta::move_delta;
 use checks::Decided;
 use checks::Look;
@@ -20,14 +20,15 @@ use state::Desk;
 use state::Effect;
 use state::Frame;
 use state::changes::put_group;
+use state::groups::sets_both;
 ghost use mathlib.Core.Path.{_≡_};
 ghost use mathlib.Core.Bool.{true};
 ghost use Prim.Native.Nat.{_*_, _≤_};
 ghost use lib.ListN.{length};
 ghost use Rattle.quantity.specs.Limits.{mostQuarters, bookRows, deltaOk, groupOk};
-ghost use Rattle.quantity.specs.Lists.{all};
 ghost use Rattle.state.specs.Desk.{withFrame};
 ghost use Rattle.state.specs.Effect.{changedBy, Fits};
+ghost use Rattle.state.specs.Valid.{deltasOk};
 ghost use Rattle.model.specs.Call.{Stores, Lengths, assigns, telling};
 ghost use Rattle.model.specs.Causes.{askingNothing};
 ghost use Rattle.model.specs.Step.{refusalBy, granting, withBook};
@@ -45,21 +46,20 @@ pub fn assign_ruling(frame: Frame, l: Look, size: u64, area: u64, group: u64, da
     let fits = delta_ok(area) & (group_ok(group) & day_ok(day));
     let v2 = or_if(v1, !fits, Cause::BadField);
     let v3 = or_if(v2, day.0 < frame.day.0, Cause::PastDay);
-    or_if(v3, opening.clearing.0 < day.0, Cause::AfterClearing)
+    or_if(v3, opening.correction.0 < day.0, Cause::TooLate)
 }
 
 // The book and the desk after an assignment that is not refused.
 fn assigned(frame: Frame, area: u64, group: u64, day: Day, book: &mut [u64]) -> Effect
-    requires { ⌜ (frame .opening .quarters ≤ mostQuarters) × (all groupOk (frame .groups) ≡ true) ⌝ }
+    requires { ⌜ (frame .opening .quarters ≤ mostQuarters) × (deltasOk (frame .groups) ≡ true) ⌝ }
     requires { ⌜ (deltaOk area ≡ true) × (groupOk group ≡ true) ⌝ }
     requires { ⌜ length (now book) ≡ bookRows * frame .opening .quarters ⌝ }
     ensures { λ r. ⌜ ((e : Desk) → let d = withFrame e frame in Fits d r × ((s : Stores) → IsBookStep (granting d (withBook s (now (book .entry))) (assigns area group (day .0))) Accepted (changedBy d r) (now (book .exit)))) ⌝ }
 {
     let opening = frame.opening;
     let groups = frame.groups;
-    let i = area as usize;
-    let old = groups[i];
-    move_delta(area, old, group, opening.quarters as usize, book);
+    let both = sets_both(opening, day);
+    move_delta(both, area, group, groups, opening.quarters as usize, book);
     put_group(frame, area, group, day)
 }
 

@@ -12,6 +12,7 @@ use quantity::limits::group_ok;
 use quantity::limits::point_ok;
 use quantity::limits::quarters_ok;
 use quantity::limits::version_ok;
+use state::DeltaGroups;
 use state::Frame;
 use state::Opening;
 use state::PointRecord;
@@ -22,7 +23,7 @@ ghost use Rattle.quantity.specs.Limits.{groupOk};
 ghost use Rattle.quantity.specs.Lists.{all};
 ghost use Rattle.state.specs.Desk.{rowsIn};
 ghost use Rattle.state.specs.Point.{seriesOk};
-ghost use Rattle.state.specs.Valid.{openingOk, pointRecordOk, versionRecordOk, frameOk};
+ghost use Rattle.state.specs.Valid.{openingOk, pointRecordOk, versionRecordOk, deltasOk, frameOk};
 
 pub fn series_ok(kind: u64, area: u64, partner: u64) -> bool
     ensures { λ r. ⌜ r ≡ seriesOk kind area partner ⌝ }
@@ -93,6 +94,15 @@ pub fn groups_ok(groups: [u64; DELTAS as usize]) -> bool
     ok
 }
 
+// The delta groups of both runs.
+pub fn deltas_ok(groups: DeltaGroups) -> bool
+    ensures { λ r. ⌜ r ≡ deltasOk groups ⌝ }
+{
+    let first = groups.first;
+    let second = groups.second;
+    groups_ok(first) & groups_ok(second)
+}
+
 // How many rows the values have: none before the opening.
 pub fn rows_in(o: Opening) -> u64
     ensures { λ r. ⌜ r ≡ rowsIn o ⌝ }
@@ -112,7 +122,7 @@ pub fn frame_ok(f: Frame) -> bool
     let groups = f.groups;
     opening_ok(opening)
         & (day_ok(day)
-            & (groups_ok(groups)
+            & (deltas_ok(groups)
                 & ((f.count <= VERSIONS)
                     & ((f.count <= rows_in(opening)) & (f.used <= opening.log / 4)))))
 }

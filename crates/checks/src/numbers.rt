@@ -17,7 +17,7 @@ pub fn cause_number(cause: Cause) -> u64
         Cause::BadOpening => 4,
         Cause::PastDay => 5,
         Cause::AfterCorrection => 11,
-        Cause::AfterClearing => 26,
+        Cause::TooLate => 26,
         Cause::PointActive => 21,
         Cause::SameSeries => 22,
         Cause::NotActive => 12,

@@ -6,6 +6,7 @@ use quantity::limits::DELTAS;
 use quantity::limits::POINTS;
 use quantity::limits::VERSIONS;
 use state::Area;
+use state::DeltaGroups;
 use state::Desk;
 use state::Frame;
 use state::Kind;
@@ -55,19 +56,34 @@ fn with_flags(r: Runs, first: bool, second: bool, flag: bool) -> Runs {
     }
 }
 
-// A delta group.
+// A delta group of one run, whose places begin at a start; another place changes nothing.
 fn with_group(
     groups: [u64; DELTAS as usize],
-    which: u64,
+    start: u64,
     place: u64,
     a: u64,
 ) -> [u64; DELTAS as usize] {
     let mut r = groups;
-    if (which == 9) & (place < DELTAS) {
-        let i = (place % DELTAS) as usize;
-        r[i] = a;
+    if start <= place {
+        if place - start < DELTAS {
+            let i = (place - start) as usize;
+            r[i] = a;
+        }
     }
     r
+}
+
+// A delta group: run 1's have the places 0 to 16, run 2's 17 to 33.
+fn with_groups(groups: DeltaGroups, which: u64, place: u64, a: u64) -> DeltaGroups {
+    if which != 9 {
+        return groups;
+    }
+    let first = groups.first;
+    let second = groups.second;
+    DeltaGroups {
+        first: with_group(first, 0, place, a),
+        second: with_group(second, DELTAS, place, a),
+    }
 }
 
 // A field beside the tables.
@@ -79,7 +95,7 @@ fn with_frame(f: Frame, which: u64, place: u64, a: u64) -> Frame {
     Frame {
         opening: with_opening(opening, which, a),
         day: Day(one_of(which == 8, a, f.day.0)),
-        groups: with_group(groups, which, place, a),
+        groups: with_groups(groups, which, place, a),
         count: one_of(which == 10, a, f.count),
         used: one_of(which == 11, a, f.used),
         closed: with_flags(closed, which == 12, which == 13, a != 0),

@@ -1,14 +1,16 @@
 -- The summary of a replay, with its tables. Assumes nothing.
-use Prim.Native.Nat.{ℕ, suc, _≤_}
+use Prim.Native.Nat.{ℕ, suc, _+_, _≤_}
 use mathlib.Core.Path.{_≡_, refl, sym, ap, _∙_}
 use mathlib.Core.Bool.{Bool, true, false, _&&_, true≢false}
-use mathlib.Core.List.{List, [], _∷_, map}
+use mathlib.Core.List.{List, [], _∷_, _++_, map, append-assoc}
 use native.Mathlib.Nat.{min-le-left}
+use native.Mathlib.Omega.{arith}
 use borrow.Author.Tests.{leb-true}
 use lib.Dec.{leb}
-use lib.ListN.{length, take, drop, length-take, length-map}
-use lib.Seq.{take-at}
+use lib.ListN.{length, take, drop, length-append, length-take, length-map}
+use lib.Seq.{take-at, drop-at, drop-drop, length-take-le}
 use Rattle.quantity.proofs.Tests.{and-left, and-right}
+use Rattle.book.specs.Row.{splice}
 use Rattle.message.specs.File.{callsIn}
 use Rattle.model.specs.Call.{Call, Stores, Lengths, lengthsOf, Told, Reply, answerNumber}
 use Rattle.model.specs.Plain.{viewIn, plainReplies, plainNext}
@@ -37,6 +39,16 @@ module _ (r p v : ℕ) {b : Bool} (e : b ≡ fits r p v) (t : b ≡ true) where
 
   pub versions-fit : versionsPlaces ≤ v
   versions-fit = leb-true versionsPlaces v (and-right (leb pointsPlaces p) (leb versionsPlaces v) rest)
+
+-- one row put behind another is both in one
+pub rows-put : (old first second mid new : List ℕ) (at m n : ℕ) → at ≤ length old → length first ≡ m → length second ≡ n → mid ≡ splice old at (length first) first → new ≡ splice mid (at + m) (length second) second
+    → new ≡ splice old at (m + n) (first ++ second)
+unfolding splice
+rows-put old first second mid new at m n fits e f k l =
+    let behind = drop m (drop at old) in
+    let front : length (take at old ++ first) ≡ at + m = length-append (take at old) first ∙ omega (arith, length-take-le at old fits) in
+    let mid-is : mid ≡ (take at old ++ first) ++ behind = k ∙ rw e (sym (append-assoc (take at old) first behind)) in
+    l ∙ rw (mid-is, f, take-at (take at old ++ first) behind (at + m) front, drop-at (take at old ++ first) behind (at + m) front, drop-drop n m (drop at old)) (simp append-assoc)
 
 -- the plain desk answers each call that it is told
 replies : (n : Lengths) (h : List Told) (cs : List Call) → length (plainReplies h (tells n h cs)) ≡ length cs
@@ -73,7 +85,7 @@ module _ (file : List ℕ) (s : Stores) (buffer output : List ℕ) where
     pub summarised : (p q : Places) {b : Bool} {number offset : ℕ} {refused : Refusals} → b ≡ fitting p → b ≡ true
         → offset ≡ endingOffset (length file) (r .ending)
         → (refused .count ≡ refusals (take (r .answered) output′)) × (refused .first ≡ firstRefused 1 (take (r .answered) output′))
-        → q .summary ≡ over (listed (r .answered) offset (r .desk .frame .opening .quarters) (r .desk .frame .used) (r .desk .frame .count) (refused .count) (refused .first) (r .desk .frame .day .0) (r .desk .frame .closed) (r .desk .frame .issued)) (p .summary)
+        → q .summary ≡ over (listed (r .answered) offset (r .desk .frame .opening .quarters) (r .desk .frame .used) (r .desk .frame .count) (refused .count) (refused .first) (r .desk .frame .day .0) (r .desk .frame .closed) (r .desk .frame .issued) (r .desk .frame .groups)) (p .summary)
         → q .points ≡ over (pointTable (r .desk .points) (take (r .desk .frame .count) (r .desk .versions))) (p .points)
         → q .versions ≡ over (versionTable (take (r .desk .frame .count) (r .desk .versions))) (p .versions)
         → number ≡ endingNumber (r .ending) → Summarised file s buffer output p number after buffer′ output′ q
@@ -86,13 +98,14 @@ module _ (file : List ℕ) (s : Stores) (buffer output : List ℕ) where
         let day = ap (λ (v : View). v .frame .day .0) held in
         let closed = ap (λ (v : View). v .frame .closed) held in
         let issued = ap (λ (v : View). v .frame .issued) held in
+        let groups = ap (λ (v : View). v .frame .groups) held in
         let ps = ap (λ (v : View). v .points) held in
         let vs = ap (λ (v : View). v .versions) held in
         record {
           short = λ g. absurd (true≢false (sym t ∙ e ∙ g));
           runs = λ _. record {
             answer = n ∙ ap endingNumber (R .ending);
-            summary = summary ∙ rw (o, f .0, f .1, answered-are, R .answered, R .ending, quarters, used, count, day, closed, issued);
+            summary = summary ∙ rw (o, f .0, f .1, answered-are, R .answered, R .ending, quarters, used, count, day, closed, issued) (cc);
             points = points ∙ rw (ps, vs);
             versions = versions ∙ rw vs;
             gives = R .gives;

@@ -1,17 +1,19 @@
 -- A whole file through a fresh desk, as plain numbers and slices.
-use Prim.Native.Nat.{ℕ}
+use Prim.Native.Nat.{ℕ, _+_, _*_}
 use mathlib.Core.Path.{_≡_}
 use mathlib.Core.Bool.{Bool, true, false, _&&_}
-use mathlib.Core.List.{List, [], _∷_}
+use mathlib.Core.List.{List, [], _∷_, _++_}
 use lib.Dec.{leb}
 use lib.ListN.{length}
+use Rattle.quantity.specs.Limits.{runs, deltas}
+use Rattle.state.specs.declared.DeltaGroups.{DeltaGroups}
 use Rattle.state.specs.declared.Runs.{Runs}
 use Rattle.replay.specs.Given.{Given}
 use Rattle.message.specs.Cause.{causeNumber}
 use Rattle.message.specs.File.{callsIn}
 use Rattle.message.specs.declared.FileCause.the-variants.{NoRoom}
 use Rattle.model.specs.Call.{Stores, Told}
-use Rattle.model.specs.Plain.{openingOf, dayOf, pointsOf, versionsOf, logOf, closedOf, issuedOf, plainReplies, plainEnd}
+use Rattle.model.specs.Plain.{openingOf, dayOf, pointsOf, groupsOf, versionsOf, logOf, closedOf, issuedOf, plainReplies, plainEnd}
 use Rattle.replay.specs.Replay.{callsFor, endingOf, toldOf, numbersOf, over, Gives}
 use Rattle.replay.specs.declared.Ending.{Ending}
 use Rattle.replay.specs.declared.Ending.the-variants.{End, Refused, Full}
@@ -39,9 +41,13 @@ pub record Places : Type 0 where
 abbrev pub placesOf : (summary points versions : List ℕ) → Places
 placesOf r p v = record { summary = r; points = p; versions = v }
 
--- how many numbers a summary has
+-- how many numbers of a summary stand before the delta groups
+abbrev pub summaryNumbers : ℕ
+summaryNumbers = 12
+
+-- how many numbers a summary has: those, and the delta groups of each run
 abbrev pub summaryPlaces : ℕ
-summaryPlaces = 12
+summaryPlaces = summaryNumbers + runs * deltas
 
 -- whether there are places enough: for a summary, for every point and for every version that a desk can hold
 abbrev pub fits : (summary points versions : ℕ) → Bool
@@ -53,14 +59,19 @@ fitting p = fits (length (p .summary)) (length (p .points)) (length (p .versions
 
 -- how many calls are answered, the offset, Q (0: not open), log rows used, versions held, how many calls are refused, which is the first, the
 -- desk's day, whether run 1 is closed and whether run 2 is, whether run 1 is issued and whether run 2 is
-abbrev pub listed : (answered offset quarters used held refused first day : ℕ) (closed issued : Runs) → List ℕ
-listed answered offset quarters used held refused first day closed issued =
+abbrev pub numbered : (answered offset quarters used held refused first day : ℕ) (closed issued : Runs) → List ℕ
+numbered answered offset quarters used held refused first day closed issued =
     answered ∷ offset ∷ quarters ∷ used ∷ held ∷ refused ∷ first ∷ day ∷ flagNumber (closed .first) ∷ flagNumber (closed .second) ∷ flagNumber (issued .first) ∷ flagNumber (issued .second) ∷ []
+
+-- behind them the delta groups of run 1, T's and those of areas 1 to 16, then those of run 2
+abbrev pub listed : (answered offset quarters used held refused first day : ℕ) (closed issued : Runs) → DeltaGroups → List ℕ
+listed answered offset quarters used held refused first day closed issued gs =
+    numbered answered offset quarters used held refused first day closed issued ++ (gs .first ++ gs .second)
 
 -- the summary on a file of so many bytes, with the plain desk's answers and its list
 abbrev pub summaryOf : (length answered : ℕ) → Ending → (answers : List ℕ) → List Told → List ℕ
 summaryOf n answered e answers h =
-    listed answered (endingOffset n e) (openingOf h .quarters) (length (logOf h)) (length (versionsOf h)) (refusals answers) (firstRefused 1 answers) (dayOf h) (closedOf h) (issuedOf h)
+    listed answered (endingOffset n e) (openingOf h .quarters) (length (logOf h)) (length (versionsOf h)) (refusals answers) (firstRefused 1 answers) (dayOf h) (closedOf h) (issuedOf h) (groupsOf h)
 
 -- a file that is run
 pub record Ran (file : List ℕ) (cs : List Given) (e : Ending) (s : Stores) (buffer output : List ℕ) (p : Places) (number : ℕ) (after : Stores) (buffer′ output′ : List ℕ) (p′ : Places) : Type 0 where

@@ -2,6 +2,7 @@
 use Prim.Native.Nat.{ℕ, suc}
 use mathlib.Core.Path.{_≡_, refl, ap}
 use mathlib.Core.List.{List, [], _∷_, _++_}
+use borrow.Author.Tests.{le-leb, lt-leb}
 use lib.IntN.{ℤ}
 use lib.ListN.{length, set, length-set, length-append, List·getD-append}
 use lib.Seq.{getD-set-same, getD-set-other, getD-append-seam}
@@ -13,7 +14,7 @@ use Rattle.state.specs.declared.Runs.{Runs}
 use Rattle.state.specs.declared.VersionRecord.{VersionRecord}
 use Rattle.state.proofs.Settled.{submitted-number, settles-first, settles-second}
 use Rattle.model.specs.Call.{Call, opens, activates, deactivates, submits, notices, assigns, shows, asks, closes, issues, lodges, reports, Lengths, telling}
-use Rattle.model.specs.Laws.{Opens, Sets, Delivers, Closes, Issues, dayBy}
+use Rattle.model.specs.Laws.{Opens, Sets, Allots, Delivers, Closes, Issues, dayBy}
 use Rattle.model.specs.Plain.{Worked, after}
 
 sets-one : {A : Type 0} (z : A) (l : List A) (i : ℕ) (x : A) → Sets z i x l (set l i x)
@@ -22,7 +23,7 @@ sets-one z l i x = record { there = getD-set-same l i x z; others = λ j ne. get
 module _ (w : Worked) (n : Lengths) where
   pub opens-sets : (q f c k : ℕ) (gs : List ℕ) → Opens q f c k gs n (after (telling n (opens q f c k gs)) w)
   unfolding after fold
-  opens-sets q f c k gs = record { q = refl; f = refl; c = refl; k = refl; values = refl; book = refl; log = refl; schedules = refl; given = refl }
+  opens-sets q f c k gs = record { q = refl; f = refl; c = refl; k = refl; values = refl; book = refl; log = refl; schedules = refl; given1 = refl; given2 = refl }
 
   -- "a point is either free or active since a day, with its kind, area and partner": points are counted from 1, records from 0
   pub activates-sets : (i k a b d : ℕ)
@@ -35,10 +36,12 @@ module _ (w : Worked) (n : Lengths) where
   unfolding after fold
   deactivates-sets i d = sets-one freePoint (w .points) i _
 
-  -- "A delta's group is the one set last."
-  pub assigns-sets : (a g d : ℕ) → Sets 0 a g (w .groups) (after (telling n (assigns a g d)) w .groups)
+  -- "A delta's group is the one set last.", for its run
+  pub assigns-sets : (a g d : ℕ) → Allots (w .opening .clearing .0) d a g (w .groups) (after (telling n (assigns a g d)) w .groups)
   unfolding after fold
-  assigns-sets a g d = sets-one 0 (w .groups) a g
+  assigns-sets a g d =
+      let c = w .opening .clearing .0 in
+      record { early = λ h. rw (le-leb d c h) (sets-one 0 (w .groups .first) a g); late = λ h. rw (lt-leb d c h); second = sets-one 0 (w .groups .second) a g }
 
   pub submits-sets : (p x d : ℕ) (es : List ℤ) → Delivers p x d es w (after (telling n (submits p x d es)) w)
   unfolding after fold

@@ -8,17 +8,20 @@ use native.Mathlib.Decide.{ℕ-discrete}
 use lib.Dec.{eqb}
 use lib.IntN.{ℤ, pos, negℤ, _+ℤ_, _-ℤ_, +ℤ-assoc, +ℤ-comm, +ℤ-idr, +ℤ-invr}
 use lib.ListN.{length, getD}
-use Rattle.quantity.specs.Limits.{points, runs, groupOk, energyOk}
+use Rattle.quantity.specs.Limits.{points, runs, energyOk}
 use Rattle.quantity.specs.Lists.{all}
 use Rattle.quantity.proofs.Tests.{by-test}
+use Rattle.state.specs.Groups.{groupsIn}
 use Rattle.state.specs.Point.{pointAt}
 use Rattle.state.specs.Selection.{own, selected}
-use Rattle.state.specs.Valid.{pointRecordOk}
+use Rattle.state.specs.Valid.{pointRecordOk, deltasOk}
 use Rattle.state.specs.Version.{recordAt}
+use Rattle.state.specs.declared.DeltaGroups.{DeltaGroups}
 use Rattle.state.specs.declared.PointRecord.{PointRecord}
 use Rattle.state.specs.declared.Selection.{Selection}
 use Rattle.state.specs.declared.Selection.the-variants.{None, Selected}
 use Rattle.state.specs.declared.VersionRecord.{VersionRecord}
+use Rattle.state.proofs.Bounds.{deltas-in}
 use Rattle.model.specs.Laws.{SameRow}
 use Rattle.model.specs.Log.{differ}
 use Rattle.model.specs.Series.{sidesOf, adds, energy, figureOf}
@@ -68,36 +71,36 @@ module _ (q : ℕ) (values : List ℕ) (ws : List VersionRecord) (es : List (Lis
       stays e false f m j = +ℤ-idr f
 
   -- both runs, at a point whose versions changed
-  pub follow : (ps : List PointRecord) (gs : List ℕ) → all pointRecordOk ps ≡ true → all groupOk gs ≡ true → (p : ℕ) → 1 ≤ p → p ≤ points → (vs : List VersionRecord) → length vs ≤ length ws
+  pub follow : (ps : List PointRecord) (gs : DeltaGroups) → all pointRecordOk ps ≡ true → deltasOk gs ≡ true → (p : ℕ) → 1 ≤ p → p ≤ points → (vs : List VersionRecord) → length vs ≤ length ws
       → ((i : ℕ) → i < length vs → recordAt ws i .row .0 ≡ recordAt vs i .row .0) → ((r i : ℕ) → (i ≡ p → ⊥) → own r i ws ≡ own r i vs) → (book : List ℕ) → Booked q book (figureOf ps gs vs es)
-      → Booked q (amended q (sidesOf gs (pointAt ps p)) p vs ws values book) (figureOf ps gs ws es)
+      → Booked q (amended q gs (pointAt ps p) p vs ws values book) (figureOf ps gs ws es)
   unfolding amended
   follow ps gs inP inG p lo hi vs few rows e book B =
       booked-same q _ _ (figureOf ps gs ws es) (λ r m j a b _ _. both r m j a b (ℕ-discrete r 1))
-      (amend-run 2 (omega arith) (omega arith) s x y (selected 2 p vs) (selected 2 p ws) (before 2) (selected-sited 2 p ws) _ _
-      (amend-run 1 (omega arith) (omega arith) s x y (selected 1 p vs) (selected 1 p ws) (before 1) (selected-sited 1 p ws) book (figureOf ps gs vs es) B))
+      (amend-run 2 (omega arith) (omega arith) (s 2) (x 2) (y 2) (selected 2 p vs) (selected 2 p ws) (before 2) (selected-sited 2 p ws) _ _
+      (amend-run 1 (omega arith) (omega arith) (s 1) (x 1) (y 1) (selected 1 p vs) (selected 1 p ws) (before 1) (selected-sited 1 p ws) book (figureOf ps gs vs es) B))
     where
-      s : Sides
-      s = sidesOf gs (pointAt ps p)
+      s : (run : ℕ) → Sides
+      s run = sidesOf (groupsIn run gs) (pointAt ps p)
 
-      x : InBook (s .to)
-      x = in-book gs inG (shaped (pointAt ps p) (state-in ps inP p) .to)
+      x : (run : ℕ) → InBook (s run .to)
+      x run = in-book (groupsIn run gs) (deltas-in gs inG run) (shaped (pointAt ps p) (state-in ps inP p) .to)
 
-      y : InBook (s .from)
-      y = in-book gs inG (shaped (pointAt ps p) (state-in ps inP p) .from)
+      y : (run : ℕ) → InBook (s run .from)
+      y run = in-book (groupsIn run gs) (deltas-in gs inG run) (shaped (pointAt ps p) (state-in ps inP p) .from)
 
       before : (run : ℕ) → Sited ws (selected run p vs)
       before run = sited-on vs ws few rows (selected run p vs) (selected-sited run p vs)
 
       A : (r m j : ℕ) → ℤ
-      A r m j = adds s m (energy es (selected r p ws) j -ℤ energy es (selected r p vs) j)
+      A r m j = adds (s r) m (energy es (selected r p ws) j -ℤ energy es (selected r p vs) j)
 
       swap : (f u v : ℤ) → f +ℤ (u -ℤ v) ≡ f -ℤ v +ℤ u
       swap f u v = cc (+ℤ-comm u (negℤ v), +ℤ-assoc f (negℤ v) u)
 
       one : (r m j : ℕ) → figureOf ps gs vs es r m j +ℤ A r m j ≡ figureOf ps gs ws es r m j
       one r m j =
-          cc (adds-minus s m (energy es (selected r p ws) j) (energy es (selected r p vs) j), swap (figureOf ps gs vs es r m j) (part ps gs ws es r m j p) (part ps gs vs es r m j p), figure-follows ps gs vs ws es p lo hi e r m j)
+          cc (adds-minus (s r) m (energy es (selected r p ws) j) (energy es (selected r p vs) j), swap (figureOf ps gs vs es r m j) (part ps gs ws es r m j p) (part ps gs vs es r m j p), figure-follows ps gs vs ws es p lo hi e r m j)
 
       both : (r m j : ℕ) → 1 ≤ r → r ≤ runs → Dec (r ≡ 1) → figureOf ps gs vs es r m j +ℤ cond (eqb 1 r) (A 1 m j) (pos 0) +ℤ cond (eqb 2 r) (A 2 m j) (pos 0) ≡ figureOf ps gs ws es r m j
       both r m j a b (yes z) = rw z (+ℤ-idr (figureOf ps gs vs es 1 m j +ℤ A 1 m j) ∙ one 1 m j)

@@ -3,7 +3,7 @@ use Prim.Native.Nat.{_≤_, _<_}
 use lib.Dec.{lit≤, lit<}
 use Rattle.model.specs.Call.{causeNumber}
 use Rattle.model.specs.declared.Cause.{Cause}
-use Rattle.model.specs.declared.Cause.the-variants.{NotOpen, WrongLength, BadField, OpenAgain, BadOpening, PastDay, AfterCorrection, AfterClearing, PointActive, SameSeries, NotActive, HasVersion, TooEarly, VersionPresent, VersionBelow, NoVersion, NoticeBelow, NotCheckData, NoRow, NoLogRow, CloseTooEarly, AlreadyClosed, FirstRunOpen, NotClosed, AlreadyIssued}
+use Rattle.model.specs.declared.Cause.the-variants.{NotOpen, WrongLength, BadField, OpenAgain, BadOpening, PastDay, AfterCorrection, TooLate, PointActive, SameSeries, NotActive, HasVersion, TooEarly, VersionPresent, VersionBelow, NoVersion, NoticeBelow, NotCheckData, NoRow, NoLogRow, CloseTooEarly, AlreadyClosed, FirstRunOpen, NotClosed, AlreadyIssued}
 
 pub number-in : (x : Cause) → (1 ≤ causeNumber x) × (causeNumber x < 100)
 number-in NotOpen = (lit≤ tt, lit< tt)
@@ -13,7 +13,7 @@ number-in OpenAgain = (lit≤ tt, lit< tt)
 number-in BadOpening = (lit≤ tt, lit< tt)
 number-in PastDay = (lit≤ tt, lit< tt)
 number-in AfterCorrection = (lit≤ tt, lit< tt)
-number-in AfterClearing = (lit≤ tt, lit< tt)
+number-in TooLate = (lit≤ tt, lit< tt)
 number-in PointActive = (lit≤ tt, lit< tt)
 number-in SameSeries = (lit≤ tt, lit< tt)
 number-in NotActive = (lit≤ tt, lit< tt)

@@ -13,7 +13,8 @@ use Rattle.quantity.specs.Limits.{quartersOk, deadlinesOk}
 use Rattle.quantity.specs.Lists.{fold}
 use Rattle.quantity.proofs.Tests.{and-left, and-right}
 use Rattle.state.specs.Desk.{isOpen, versionsIn, unopened, flagOf}
-use Rattle.state.specs.Selection.{isSelected, own, orElse, withStatus, SameVersion}
+use Rattle.state.specs.Groups.{groupsIn}
+use Rattle.state.specs.Selection.{isSelected, own, orElse, selected, withStatus, SameVersion}
 use Rattle.state.specs.Valid.{openingOk}
 use Rattle.state.specs.declared.Opening.{Opening}
 use Rattle.state.specs.declared.Selection.{Selection}
@@ -25,7 +26,7 @@ use Rattle.model.specs.Agreement.{Running, Chained, end, fresh}
 use Rattle.model.specs.Call.{Call, opens, activates, deactivates, submits, notices, assigns, shows, asks, closes, issues, lodges, reports, Stores, Lengths, Lent, Told, told, telling}
 use Rattle.model.specs.Causes.{terms, rules, orIf, firstOf, openingBy, opensOk, deadline, refusal}
 use Rattle.model.specs.Laws.{Passed, StaysClosed}
-use Rattle.model.specs.Plain.{Worked, openingOf, dayOf, versionsOf, closedOf, issuedOf, viewIn, joined, plainNext, plainEnd, workedOut, after}
+use Rattle.model.specs.Plain.{Worked, openingOf, dayOf, groupsOf, versionsOf, closedOf, issuedOf, viewIn, joined, plainNext, plainEnd, workedOut, after}
 use Rattle.model.specs.View.{View}
 use Rattle.model.specs.declared.Ruling.{Ruling}
 use Rattle.model.specs.declared.Ruling.the-variants.{Fine, Refuse}
@@ -90,12 +91,13 @@ module _ (h : List Told) (O : Opened h) (n : Lengths) where
   pub is-open : isOpen (openingOf h) ≡ true
   is-open = opening-open (openingOf h) (O .opening)
 
-  -- what a call leaves that is neither a close nor an issue: the flags, and past a run's deadline what it has of its own
+  -- what a call leaves that is neither a close nor an issue: the flags, and past a run's deadline what it has of its own and its delta groups
   record Leaves (c : Call) : Type 0 where
     day : after (telling n c) (workedOut h) .day ≡ terms c .day (dayOf h)
     closed : after (telling n c) (workedOut h) .closed ≡ closedOf h
     issued : after (telling n c) (workedOut h) .issued ≡ issuedOf h
     picks : Passed (rules (viewIn h) n c) → (run : ℕ) → Run run → Late run h → (i : ℕ) → own run i (after (telling n c) (workedOut h) .versions) ≡ own run i (versionsOf h)
+    groups : Passed (rules (viewIn h) n c) → (run : ℕ) → Run run → Late run h → groupsIn run (after (telling n c) (workedOut h) .groups) ≡ groupsIn run (groupsOf h)
 
   data Act : Call → Type 0 where
     leaves : {c : Call} → Leaves c → Act c
@@ -104,17 +106,20 @@ module _ (h : List Told) (O : Opened h) (n : Lengths) where
 
   act : (c : Call) → Act c
   unfolding viewIn after fold
-  act (opens q f c k gs) = leaves (record { day = refl; closed = refl; issued = refl; picks = λ P run R z i. refl })
-  act (activates p k a b d) = leaves (record { day = refl; closed = refl; issued = refl; picks = λ P run R z i. refl })
-  act (deactivates p d) = leaves (record { day = refl; closed = refl; issued = refl; picks = λ P run R z i. refl })
-  act (submits p x d es) = leaves (record { day = refl; closed = refl; issued = refl; picks = uncounted })
+  act (opens q f c k gs) = leaves (record { day = refl; closed = refl; issued = refl; picks = λ P run R z i. refl; groups = never })
+    where
+      never : Passed (rules (viewIn h) n (opens q f c k gs)) → (run : ℕ) → Run run → Late run h → groupsIn run (after (telling n (opens q f c k gs)) (workedOut h) .groups) ≡ groupsIn run (groupsOf h)
+      never P run R z = absurd (false≢true (sym (P .0) ∙ is-open))
+  act (activates p k a b d) = leaves (record { day = refl; closed = refl; issued = refl; picks = λ P run R z i. refl; groups = λ P run R z. refl })
+  act (deactivates p d) = leaves (record { day = refl; closed = refl; issued = refl; picks = λ P run R z i. refl; groups = λ P run R z. refl })
+  act (submits p x d es) = leaves (record { day = refl; closed = refl; issued = refl; picks = uncounted; groups = λ P run R z. refl })
     where
       uncounted : Passed (rules (viewIn h) n (submits p x d es)) → (run : ℕ) → Run run → Late run h → (i : ℕ) → own run i (after (telling n (submits p x d es)) (workedOut h) .versions) ≡ own run i (versionsOf h)
       uncounted P run R z i =
           let f = openingOf h .first .0 in
           let late : f < d = omega (arith, z, first-before (openingOf h) (O .opening) run R, day-grows (viewIn h) n (submits p x d es) P) in
           own-uncounted run i f (length (versionsOf h)) p x d (versionsOf h) (rw (lt-leb d f late))
-  act (notices p x y d) = leaves (record { day = refl; closed = refl; issued = refl; picks = unturned })
+  act (notices p x y d) = leaves (record { day = refl; closed = refl; issued = refl; picks = unturned; groups = λ P run R z. refl })
     where
       unturned : Passed (rules (viewIn h) n (notices p x y d)) → (run : ℕ) → Run run → Late run h → (i : ℕ) → own run i (after (telling n (notices p x y d)) (workedOut h) .versions) ≡ own run i (versionsOf h)
       unturned P run (inl e) z i =
@@ -124,13 +129,22 @@ module _ (h : List Told) (O : Opened h) (n : Lengths) where
       unturned P run (inr e) z i =
           let past : openingOf h .correction .0 < dayOf h = rw e at z in
           absurd (omega (arith, past, day-grows (viewIn h) n (notices p x y d) P, ltb-false (openingOf h .correction .0) d (P .1 .1 .1 .1 .0)))
-  act (assigns a g d) = leaves (record { day = refl; closed = refl; issued = refl; picks = λ P run R z i. refl })
-  act (shows r g) = leaves (record { day = refl; closed = refl; issued = refl; picks = λ P run R z i. refl })
-  act (asks p x) = leaves (record { day = refl; closed = refl; issued = refl; picks = λ P run R z i. refl })
+  act (assigns a g d) = leaves (record { day = refl; closed = refl; issued = refl; picks = λ P run R z i. refl; groups = kept })
+    where
+      kept : Passed (rules (viewIn h) n (assigns a g d)) → (run : ℕ) → Run run → Late run h → groupsIn run (after (telling n (assigns a g d)) (workedOut h) .groups) ≡ groupsIn run (groupsOf h)
+      kept P run (inl e) z =
+          let c = openingOf h .clearing .0 in
+          let past : c < dayOf h = rw e at z in
+          rw (e, lt-leb d c (omega (arith, past, day-grows (viewIn h) n (assigns a g d) P)))
+      kept P run (inr e) z =
+          let past : openingOf h .correction .0 < dayOf h = rw e at z in
+          absurd (omega (arith, past, day-grows (viewIn h) n (assigns a g d) P, ltb-false (openingOf h .correction .0) d (P .1 .1 .1 .1 .0)))
+  act (shows r g) = leaves (record { day = refl; closed = refl; issued = refl; picks = λ P run R z i. refl; groups = λ P run R z. refl })
+  act (asks p x) = leaves (record { day = refl; closed = refl; issued = refl; picks = λ P run R z i. refl; groups = λ P run R z. refl })
   act (closes r d) = closing r d
   act (issues r d) = issuing r d
-  act (lodges g d es) = leaves (record { day = refl; closed = refl; issued = refl; picks = λ P run R z i. refl })
-  act (reports r g) = leaves (record { day = refl; closed = refl; issued = refl; picks = λ P run R z i. refl })
+  act (lodges g d es) = leaves (record { day = refl; closed = refl; issued = refl; picks = λ P run R z i. refl; groups = λ P run R z. refl })
+  act (reports r g) = leaves (record { day = refl; closed = refl; issued = refl; picks = λ P run R z i. refl; groups = λ P run R z. refl })
 
   -- a run that a call closes, or that is closed before it, lies past its deadline
   past-after : (run : ℕ) → Run run → {c : Call} → Act c → Passed (rules (viewIn h) n c) → flagOf run (after (telling n c) (workedOut h) .closed) ≡ true
@@ -199,6 +213,12 @@ module _ (h : List Told) (O : Opened h) (n : Lengths) where
       go (inl a) = ap (withStatus Check) a
       go (inr b) = b .0
 
+  groups-after : (run : ℕ) → Run run → {c : Call} → Act c → Passed (rules (viewIn h) n c) → Late run h → groupsIn run (after (telling n c) (workedOut h) .groups) ≡ groupsIn run (groupsOf h)
+  unfolding after fold
+  groups-after run R (leaves L) P z = L .groups P run R z
+  groups-after run R (closing r d) P z = refl
+  groups-after run R (issuing r d) P z = refl
+
   later-after : {c : Call} → Act c → Passed (rules (viewIn h) n c) → (run : ℕ) → Late run h → deadline (openingOf h) run < after (telling n c) (workedOut h) .day
   unfolding viewIn after fold
   later-after {c = c} (leaves L) P run z = omega (arith, z, day-grows (viewIn h) n c P, L .day)
@@ -208,14 +228,16 @@ module _ (h : List Told) (O : Opened h) (n : Lengths) where
 -- what is to be shown of one call, and of any list of them
 pub record Onward (h g : List Told) : Type 0 where
   pub plain : Plain g
+  pub opening : isOpen (openingOf h) ≡ true → openingOf g ≡ openingOf h
   pub late : (run : ℕ) → Run run → Late run h → Late run g
   pub closed : (run : ℕ) → Run run → flagOf run (closedOf h) ≡ true → flagOf run (closedOf g) ≡ true
   pub issued : (run : ℕ) → Run run → flagOf run (issuedOf h) ≡ true → flagOf run (issuedOf g) ≡ true
   pub picks : (run : ℕ) → Run run → Late run h → (i : ℕ) → SameVersion (own run i (versionsOf g)) (own run i (versionsOf h))
   pub stays : (run : ℕ) → Run run → flagOf run (issuedOf h) ≡ true → (i : ℕ) → own run i (versionsOf g) ≡ own run i (versionsOf h)
+  pub groups : (run : ℕ) → Run run → Late run h → groupsIn run (groupsOf g) ≡ groupsIn run (groupsOf h)
 
 nothing-on : (h : List Told) → Plain h → Onward h h
-nothing-on h P = record { plain = P; late = λ run R z. z; closed = λ run R e. e; issued = λ run R e. e; picks = λ run R z i. refl; stays = λ run R e i. refl }
+nothing-on h P = record { plain = P; opening = λ o. refl; late = λ run R z. z; closed = λ run R e. e; issued = λ run R e. e; picks = λ run R z i. refl; stays = λ run R e i. refl; groups = λ run R z. refl }
 
 opened-on : (h : List Told) (n : Lengths) (c : Call) → Opened h → Onward h (plainNext h (telling n c))
 unfolding plainNext joined refusal workedOut
@@ -229,14 +251,16 @@ opened-on h n c O = go (refusal (viewIn h) (telling n c)) refl (opening-stays h 
         let same : openingOf (telling n c ∷ h) ≡ openingOf h = rw e at o in
         record {
           plain = opened (record { opening = ap openingOk same ∙ O .opening; past = λ run R z. rw same (past-after h O n run R A P z); shut = λ run R z. shut-after h O n run R A P z });
+          opening = λ _. same;
           late = λ run R z. rw same (later-after h O n A P run z);
           closed = λ run R z. closed-after h O n run R A z;
           issued = λ run R z. issued-after h O n run R A z;
           picks = λ run R z i. same-after h O n run R c P z i;
           stays = λ run R z i. issued-stays-after h O n run R c P z i;
+          groups = λ run R z. groups-after h O n run R A P z;
         }
 
-early-day : (run : ℕ) → deadline unopened run < 0 → ⊥
+pub early-day : (run : ℕ) → deadline unopened run < 0 → ⊥
 early-day run z = omega arith
 
 -- from nothing, only an opening is accepted
@@ -272,11 +296,13 @@ unfolding workedOut
 empty-on g P =
     record {
       plain = P;
+      opening = λ o. absurd (false≢true o);
       late = λ run R z. absurd (early-day run z);
       closed = λ run R z. absurd (unflagged run z);
       issued = λ run R z. absurd (unflagged run z);
       picks = λ run R z i. absurd (early-day run z);
       stays = λ run R z i. absurd (unflagged run z);
+      groups = λ run R z. absurd (early-day run z);
     }
 
 pub onward : (h : List Told) (t : Told) → Plain h → Onward h (plainNext h t)
@@ -310,11 +336,13 @@ on-end h (t ∷ m) P =
     let E = on-end (plainNext h t) m (O .plain) in
     record {
       plain = E .plain;
+      opening = λ o. E .opening (ap isOpen (O .opening o) ∙ o) ∙ O .opening o;
       late = λ run R z. E .late run R (O .late run R z);
       closed = λ run R z. E .closed run R (O .closed run R z);
       issued = λ run R z. E .issued run R (O .issued run R z);
       picks = λ run R z i. E .picks run R (O .late run R z) i ∙ O .picks run R z i;
       stays = λ run R z i. E .stays run R (O .issued run R z) i ∙ O .stays run R z i;
+      groups = λ run R z. E .groups run R (O .late run R z) ∙ O .groups run R z;
     }
 
 pub end-append : (h l m : List Told) → plainEnd h (l ++ m) ≡ plainEnd (plainEnd h l) m
@@ -353,6 +381,15 @@ or-same None (Selected s) c d e z = not-same s e
 or-same (Selected r) None c d e z = not-same r (sym e)
 or-same (Selected r) (Selected s) c d e z = e
 
+-- past its deadline a run goes on selecting the same versions
+pub selects-on : (h g : List Told) → Plain h → Onward h g → (run : ℕ) → Run run → Late run h → (p : ℕ) → SameVersion (selected run p (versionsOf g)) (selected run p (versionsOf h))
+selects-on h g P O run (inl e) z p = let late : Late 1 h = rw e at z in rw e (O .picks 1 (inl refl) late p)
+selects-on h g P O run (inr e) z p =
+    let late : Late 2 h = rw e at z in
+    rw e
+    (or-same (own 2 p (versionsOf g)) (own 2 p (versionsOf h)) (own 1 p (versionsOf g)) (own 1 p (versionsOf h)) (O .picks 2 (inr refl) late p)
+    (O .picks 1 (inl refl) (both-late h P late) p))
+
 module _ (l m : List Told) where
   abbrev h : List Told
   h = plainEnd [] l
@@ -360,7 +397,7 @@ module _ (l m : List Told) where
   abbrev g : List Told
   g = plainEnd [] (l ++ m)
 
-  start : Plain h
+  pub start : Plain h
   start = on-end [] l (empty refl) .plain
 
   -- on the plain desk, whatever follows
@@ -373,11 +410,8 @@ module _ (l m : List Told) where
   pub closed-plain : StaysClosed (closedOf h) (versionsOf h) (versionsOf g)
   closed-plain =
       record {
-        first = closed-own 1 (inl refl);
-        second =
-            λ e p.
-            let late = both-late h start (closed-late h start 2 (inr refl) e) in
-            or-same (own 2 p (versionsOf g)) (own 2 p (versionsOf h)) (own 1 p (versionsOf g)) (own 1 p (versionsOf h)) (closed-own 2 (inr refl) e p) (follows .picks 1 (inl refl) late p);
+        first = λ e p. selects-on h g start follows 1 (inl refl) (closed-late h start 1 (inl refl) e) p;
+        second = λ e p. selects-on h g start follows 2 (inr refl) (closed-late h start 2 (inr refl) e) p;
       }
 
 -- and on the running desk

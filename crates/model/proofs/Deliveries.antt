@@ -1,4 +1,4 @@
--- As many versions are held as submissions were accepted. Assumes nothing.
+-- As many versions are held, and as many rows of energies, as submissions were accepted. Assumes nothing.
 use Prim.Native.Nat.{ℕ, _+_}
 use mathlib.Core.Path.{_≡_, refl}
 use mathlib.Core.Bool.{_&&_}
@@ -16,7 +16,7 @@ use Rattle.state.specs.declared.Held.the-variants.{Absent, Has}
 use Rattle.state.specs.declared.VersionRecord.{VersionRecord}
 use Rattle.model.specs.Call.{Call, opens, activates, deactivates, submits, notices, assigns, shows, asks, closes, issues, lodges, reports, Lengths, Told, telling}
 use Rattle.model.specs.Laws.{submissionBy, submissions}
-use Rattle.model.specs.Plain.{Worked, versionsOf, workedOut, after}
+use Rattle.model.specs.Plain.{Worked, versionsOf, energiesOf, workedOut, after}
 
 -- a notice makes no version
 length-confirmed : (c y d : ℕ) (h : Held) (vs : List VersionRecord) → length (confirm c y d h vs) ≡ length vs
@@ -46,3 +46,24 @@ pub all-delivered : (h : List Told) → length (versionsOf h) ≡ submissions h
 unfolding workedOut submissions
 all-delivered [] = refl
 all-delivered (t ∷ h) = omega (arith, delivers (workedOut h) (t .lengths) (t .call), all-delivered h)
+
+-- and its energies
+energises : (w : Worked) (n : Lengths) (c : Call) → length (after (telling n c) w .energies) ≡ submissionBy c + length (w .energies)
+unfolding after fold
+energises w n (opens q f c k gs) = omega arith
+energises w n (activates p k a b d) = omega arith
+energises w n (deactivates p d) = omega arith
+energises w n (submits p x d es) = omega (arith, length-append (w .energies) (es ∷ []))
+energises w n (notices p x y d) = omega arith
+energises w n (assigns a g d) = omega arith
+energises w n (shows r g) = omega arith
+energises w n (asks p x) = omega arith
+energises w n (closes r d) = omega arith
+energises w n (issues r d) = omega arith
+energises w n (lodges g d es) = omega arith
+energises w n (reports r g) = omega arith
+
+pub all-energised : (h : List Told) → length (energiesOf h) ≡ length (versionsOf h)
+unfolding workedOut
+all-energised [] = refl
+all-energised (t ∷ h) = omega (arith, delivers (workedOut h) (t .lengths) (t .call), energises (workedOut h) (t .lengths) (t .call), all-energised h)

@@ -101,6 +101,7 @@ holds-agree given plain r h e H =
     record {
       answers = e;
       opening = ap (λ (w : Worked). w .opening) (H .works);
+      deltaGroups = ap (λ (w : Worked). w .groups) (H .works);
       versions = ap (λ (w : Worked). w .versions) (H .works);
       log = rw (H .used) (H .kept .logged);
       figures = read-figure (r .desk) (r .stores) h H;

@@ -8,14 +8,15 @@ use borrow.Author.Tests.{eqb-true}
 use lib.Dec.{eqb}
 use lib.IntN.{pos}
 use lib.ListN.{length, replicate, length-replicate}
-use Rattle.quantity.specs.Limits.{bookRows, deltas}
+use Rattle.quantity.specs.Limits.{bookRows, deltas, groupOk}
 use Rattle.quantity.specs.Lists.{all, fold}
 use Rattle.quantity.specs.Word.{word}
 use Rattle.quantity.proofs.Lists.{alike-at}
-use Rattle.quantity.proofs.Tests.{and-left, and-right}
+use Rattle.quantity.proofs.Tests.{and-left, and-right, and-both}
 use Rattle.state.specs.Desk.{freshDesk, openDesk}
+use Rattle.state.specs.Groups.{alike}
 use Rattle.state.specs.Point.{freePoint}
-use Rattle.state.specs.Valid.{openingOk, frameOk, validDesk}
+use Rattle.state.specs.Valid.{openingOk, deltasOk, frameOk, validDesk}
 use Rattle.state.specs.declared.Desk.{Desk}
 use Rattle.model.specs.Agreement.{Running, next, fresh, Agree}
 use Rattle.model.specs.Call.{Call, opens, activates, deactivates, submits, notices, assigns, shows, asks, closes, issues, lodges, reports, Stores, lengthsOf, Lent, Told, told, Reply}
@@ -24,7 +25,7 @@ use Rattle.model.specs.Log.{logNumbers}
 use Rattle.model.specs.Plain.{viewIn, answered, joined, plainReply, plainNext, workedOut, after}
 use Rattle.model.specs.Step.{cleared, refusalBy, decided, step, replyOf}
 use Rattle.model.proofs.Figures.{figure-none}
-use Rattle.model.proofs.Invariant.{Holds, Granted, holds-open, book-is, schedules-is}
+use Rattle.model.proofs.Invariant.{Holds, Grouped, Granted, holds-open, book-is, schedules-is}
 use Rattle.model.proofs.Lending.{left-every}
 use Rattle.model.proofs.Points.{selected-none}
 use Rattle.model.proofs.Schedules.{none-scheduled}
@@ -37,6 +38,11 @@ pub data State (r : Running) (h : List Told) : Type 0 where
 zero-word : word (pos 0) ≡ 0
 unfolding word
 zero-word = refl
+
+-- both runs' delta groups are those given
+grouped-alike : (gs : List ℕ) → all groupOk gs ≡ true → length gs ≡ deltas → Grouped (alike gs)
+unfolding deltasOk
+grouped-alike gs ok n = record { each = and-both _ _ ok ok; size1 = n; size2 = n }
 
 -- "Book all 0; all points free, no versions, no log rows used; values and log untouched."
 module _ (q f c k : ℕ) (gs : List ℕ) (st : Stores) (ok : opensOk (openingBy q f c k (lengthsOf st)) gs ≡ true) where
@@ -52,14 +58,14 @@ module _ (q f c k : ℕ) (gs : List ℕ) (st : Stores) (ok : opensOk (openingBy 
         kept =
             record {
               framed = record { opening = and-left (openingOk o) _ ok; day = refl; used = omega arith };
-              grouped = record { each = and-right (eqb (length gs) deltas) _ rest; size = eqb-true (length gs) deltas (and-left (eqb (length gs) deltas) _ rest) };
+              grouped = grouped-alike gs (and-right (eqb (length gs) deltas) _ rest) (eqb-true (length gs) deltas (and-left (eqb (length gs) deltas) _ rest));
               pointed = record { each = refl; size = refl };
               versioned = record { count = omega arith; rows = omega arith; each = refl; homes = refl };
               stored = record { long = refl; small = λ i j. refl; rows = λ i h. absurd (omega arith); reads = λ i h. absurd (omega arith) };
               booked =
                   record {
                     size = length-replicate (bookRows * q) 0;
-                    at = λ run r j _ _ _ _. alike-at (bookRows * q) _ 0 ∙ sym zero-word ∙ ap word (sym (figure-none (replicate 256 freePoint) gs [] [] (λ x p. selected-none p [] refl x) run r j));
+                    at = λ run r j _ _ _ _. alike-at (bookRows * q) _ 0 ∙ sym zero-word ∙ ap word (sym (figure-none (replicate 256 freePoint) (alike gs) [] [] (λ x p. selected-none p [] refl x) run r j));
                   };
               valuesLong = refl;
               logLong = refl;
@@ -113,6 +119,7 @@ none-yet given plain s e =
     record {
       answers = e;
       opening = refl;
+      deltaGroups = refl;
       versions = refl;
       log = refl;
       figures = λ run k q _ _ _ l. absurd (omega arith);

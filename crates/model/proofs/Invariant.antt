@@ -8,12 +8,13 @@ use borrow.Author.Tests.{le-leb, eqb-true, ne-eqb}
 use lib.Dec.{eqb}
 use lib.ListN.{length, take}
 use lib.Seq.{length-take-le}
-use Rattle.quantity.specs.Limits.{points, versions, deltas, bookRows, scheduleRows, quartersOk, deadlinesOk, dayOk, groupOk}
+use Rattle.quantity.specs.Limits.{points, versions, deltas, bookRows, scheduleRows, quartersOk, deadlinesOk, dayOk}
 use Rattle.quantity.specs.Lists.{all, fold}
 use Rattle.quantity.proofs.Tests.{and-left, and-right, within-low}
 use Rattle.state.specs.Desk.{isOpen, frameOf, rowsIn, logRowsIn, versionsIn}
 use Rattle.state.specs.Point.{pointAt, isActive}
-use Rattle.state.specs.Valid.{openingOk, pointRecordOk, versionRecordOk, frameOk, validDesk}
+use Rattle.state.specs.Valid.{openingOk, pointRecordOk, versionRecordOk, deltasOk, frameOk, validDesk}
+use Rattle.state.specs.declared.DeltaGroups.{DeltaGroups}
 use Rattle.state.specs.declared.Desk.{Desk}
 use Rattle.state.specs.declared.Opening.{Opening}
 use Rattle.state.specs.declared.PointRecord.{PointRecord}
@@ -50,9 +51,10 @@ pub record Framed (o : Opening) (e n : ℕ) : Type 0 where
   pub used : n ≤ logRowsIn o
 
 -- so are all delta groups,
-pub record Grouped (gs : List ℕ) : Type 0 where
-  pub each : all groupOk gs ≡ true
-  pub size : length gs ≡ deltas
+pub record Grouped (gs : DeltaGroups) : Type 0 where
+  pub each : deltasOk gs ≡ true
+  pub size1 : length (gs .first) ≡ deltas
+  pub size2 : length (gs .second) ≡ deltas
 
 -- all points,
 pub record Pointed (ps : List PointRecord) : Type 0 where

@@ -28,6 +28,7 @@ pub mod Newest
 pub mod Notice
 pub mod Points
 pub mod Queries
+pub mod Regrouped
 pub mod Restating
 pub mod Rules
 pub mod Sample
@@ -35,6 +36,7 @@ pub mod SampleRunning
 pub mod Schedules
 pub mod Selections
 pub mod SeriesTable
+pub mod Standing
 pub mod Storing
 pub mod Submit
 pub mod TableDue

@@ -1,6 +1,6 @@
--- "The delta moves to the group in both runs.": the exact figures with another delta group, and the book that follows them. Assumes nothing.
+-- "The delta moves to the group", in both runs or in run 2 only: the exact figures with another delta group, and the book that follows them. Assumes nothing.
 use Prim.Native.Nat.{ℕ, zero, suc, _≤_, _<_}
-use mathlib.Core.Path.{_≡_, sym, ap, _∙_}
+use mathlib.Core.Path.{_≡_, refl, sym, ap, _∙_}
 use mathlib.Core.Bool.{Bool, true, false, cond, _&&_}
 use mathlib.Core.List.{List}
 use native.Mathlib.Omega.{arith}
@@ -18,16 +18,19 @@ use Rattle.quantity.proofs.Sums.{sum-same, sum-plus}
 use Rattle.book.specs.Place.{groupRow, deltaRow, rowStart}
 use Rattle.book.specs.declared.Way.the-variants.{In, Out}
 use Rattle.book.proofs.Places.{row-within}
+use Rattle.state.specs.Groups.{groupsIn, withGroup}
 use Rattle.state.specs.Point.{pointAt}
-use Rattle.state.specs.Valid.{stateOk, pointRecordOk}
+use Rattle.state.specs.Valid.{stateOk, pointRecordOk, deltasOk}
+use Rattle.state.specs.declared.DeltaGroups.{DeltaGroups}
 use Rattle.state.specs.declared.PointRecord.{PointRecord}
 use Rattle.state.specs.declared.PointState.{PointState}
 use Rattle.state.specs.declared.VersionRecord.{VersionRecord}
+use Rattle.state.proofs.Bounds.{deltas-in}
 use Rattle.model.specs.Series.{sidesOf, atRow, onSide, adds, energy, figureOf}
 use Rattle.model.specs.Step.{moveRun, moved}
 use Rattle.model.specs.declared.Side.{Side}
 use Rattle.model.proofs.Books.{Figures, Booked, booked-same, booked-post, Reads, shift}
-use Rattle.model.proofs.Figures.{part, state-in}
+use Rattle.model.proofs.Figures.{part, figure-groups, state-in}
 use Rattle.model.proofs.SeriesTable.{Shape, nowhere, group, delta, shaped, group-small, cond-zero, cond-neg, cond-plus}
 use Rattle.state.specs.Selection.{selected}
 
@@ -97,16 +100,20 @@ module _ (gs : List ℕ) (ok : all groupOk gs ≡ true) (x g : ℕ) (lt : x < le
       let R : ℕ → ℤ = λ (m : ℕ). onSide (sidesOf gs s .from) m v in
       cc (side-moves (S .to) k v, side-moves (S .from) k v, apart (T k) (to k (T (deltaRow x))) (R k) (to k (R (deltaRow x))), move-minus (groupRow (getD gs x 0)) (groupRow g) k (T (deltaRow x)) (R (deltaRow x)))
 
-  figure-moves : (ps : List PointRecord) (vs : List VersionRecord) (es : List (List ℤ)) → all pointRecordOk ps ≡ true → (run k j : ℕ)
-      → figureOf ps gs vs es run k j +ℤ to k (figureOf ps gs vs es run (deltaRow x) j) ≡ figureOf ps (set gs x g) vs es run k j
-  unfolding figureOf
-  figure-moves ps vs es inP run k j =
-      let f : ℕ → ℤ = part ps gs vs es run k j in
-      let d : ℕ → ℤ = part ps gs vs es run (deltaRow x) j in
-      ap (λ (z : ℤ). sumTo points f +ℤ z) (sym (sum-move (groupRow (getD gs x 0)) (groupRow g) k points d))
-      ∙ sym (sum-plus points f (λ (p : ℕ). to k (d p)))
-      ∙ sum-same points (λ (p : ℕ). f p +ℤ to k (d p)) (part ps (set gs x g) vs es run k j)
-      (λ p lo hi. sym (adds-moves (pointAt ps p) (state-in ps inP p) k (energy es (selected run p vs) j)))
+-- the figures of a run in which a delta has another group
+figure-moves : (gs hs : DeltaGroups) (run x g : ℕ) → all groupOk (groupsIn run gs) ≡ true → x < length (groupsIn run gs) → groupsIn run hs ≡ set (groupsIn run gs) x g
+    → (ps : List PointRecord) (vs : List VersionRecord) (es : List (List ℤ)) → all pointRecordOk ps ≡ true → (k j : ℕ)
+    → figureOf ps gs vs es run k j +ℤ move (groupRow (getD (groupsIn run gs) x 0)) (groupRow g) k (figureOf ps gs vs es run (deltaRow x) j) ≡ figureOf ps hs vs es run k j
+unfolding figureOf
+figure-moves gs hs run x g ok lt e ps vs es inP k j =
+    let l = groupsIn run gs in
+    let f : ℕ → ℤ = part ps gs vs es run k j in
+    let d : ℕ → ℤ = part ps gs vs es run (deltaRow x) j in
+    ap (λ (z : ℤ). sumTo points f +ℤ z) (sym (sum-move (groupRow (getD l x 0)) (groupRow g) k points d))
+    ∙ sym (sum-plus points f (λ (p : ℕ). to l ok x g lt k (d p)))
+    ∙ sum-same points (λ (p : ℕ). f p +ℤ to l ok x g lt k (d p)) (λ (p : ℕ). adds (sidesOf (set l x g) (pointAt ps p)) k (energy es (selected run p vs) j))
+    (λ p lo hi. sym (adds-moves l ok x g lt (pointAt ps p) (state-in ps inP p) k (energy es (selected run p vs) j)))
+    ∙ ap (λ (m : List ℕ). sumTo points (λ (p : ℕ). adds (sidesOf m (pointAt ps p)) k (energy es (selected run p vs) j))) (sym e)
 
 -- ---- the book
 
@@ -125,24 +132,34 @@ module _ (run q a old new : ℕ) (lo : 1 ≤ run) (hi : run ≤ runs) (inA : a �
       both true u v f z = cc (cond-neg u z, +ℤ-assoc f (negℤ (cond u z (pos 0))) (cond v z (pos 0)), +ℤ-comm (negℤ (cond u z (pos 0))) (cond v z (pos 0)))
       both false u v f z = +ℤ-idr (f +ℤ pos 0)
 
--- both runs, with the figures of a valid table
-pub booked-moved : (q : ℕ) (gs : List ℕ) → all groupOk gs ≡ true → (x g : ℕ) → x < length gs → x ≤ areas → g ≤ groups → (ps : List PointRecord) (vs : List VersionRecord) (es : List (List ℤ)) → all pointRecordOk ps ≡ true
-    → (book : List ℕ) → Booked q book (figureOf ps gs vs es) → Booked q (moved q x (getD gs x 0) g book) (figureOf ps (set gs x g) vs es)
-unfolding moved
-booked-moved q gs ok x g lt inA inG ps vs es inP book B =
-    booked-same q _ _ (figureOf ps (set gs x g) vs es) (λ r m j a b _ _. both r m j a b (ℕ-discrete r 1))
-    (move-run 2 q x (getD gs x 0) g (omega arith) (omega arith) inA (group-small gs ok x) inG _ _
-    (move-run 1 q x (getD gs x 0) g (omega arith) (omega arith) inA (group-small gs ok x) inG book F B))
-  where
-    F : Figures
-    F = figureOf ps gs vs es
+-- ---- the book with the figures of a valid table
 
-    at : (m : ℕ) → ℤ → ℤ
-    at m z = move (groupRow (getD gs x 0)) (groupRow g) m z
+module _ (q x g : ℕ) (inA : x ≤ areas) (inG : g ≤ groups) (ps : List PointRecord) (vs : List VersionRecord) (es : List (List ℤ)) (inP : all pointRecordOk ps ≡ true) where
+  -- one run
+  booked-run : (run : ℕ) → 1 ≤ run → run ≤ runs → (gs hs : DeltaGroups) → all groupOk (groupsIn run gs) ≡ true → x < length (groupsIn run gs) → groupsIn run hs ≡ set (groupsIn run gs) x g
+      → ((r : ℕ) → 1 ≤ r → r ≤ runs → (r ≡ run → ⊥) → groupsIn r hs ≡ groupsIn r gs) → (book : List ℕ) → Booked q book (figureOf ps gs vs es)
+      → Booked q (moveRun run q x (getD (groupsIn run gs) x 0) g book) (figureOf ps hs vs es)
+  booked-run run lo hi gs hs ok lt e others book B =
+      booked-same q _ _ (figureOf ps hs vs es) (λ r m j a b _ _. go r m j a b (ℕ-discrete r run))
+      (move-run run q x (getD (groupsIn run gs) x 0) g lo hi inA (group-small (groupsIn run gs) ok x) inG book F B)
+    where
+      F : Figures
+      F = figureOf ps gs vs es
 
-    both : (r m j : ℕ) → 1 ≤ r → r ≤ runs → Dec (r ≡ 1)
-        → F r m j +ℤ cond (eqb 1 r) (at m (F 1 (deltaRow x) j)) (pos 0) +ℤ cond (eqb 2 r) (at m (F 2 (deltaRow x) j +ℤ pos 0)) (pos 0) ≡ figureOf ps (set gs x g) vs es r m j
-    both r m j a b (yes z) = rw z (+ℤ-idr (F 1 m j +ℤ at m (F 1 (deltaRow x) j)) ∙ figure-moves gs ok x g lt ps vs es inP 1 m j)
-    both r m j a b (no ne) =
-        let z : r ≡ 2 = omega arith in
-        rw z (rw (+ℤ-idr (F 2 m j), +ℤ-idr (F 2 (deltaRow x) j)) (figure-moves gs ok x g lt ps vs es inP 2 m j))
+      at : (m : ℕ) → ℤ → ℤ
+      at m z = move (groupRow (getD (groupsIn run gs) x 0)) (groupRow g) m z
+
+      go : (r m j : ℕ) → 1 ≤ r → r ≤ runs → Dec (r ≡ run) → F r m j +ℤ cond (eqb run r) (at m (F run (deltaRow x) j)) (pos 0) ≡ figureOf ps hs vs es r m j
+      go r m j a b (yes z) = rw (z, eq-eqb run run refl) (figure-moves gs hs run x g ok lt e ps vs es inP m j)
+      go r m j a b (no ne) = rw (ne-eqb run r (λ z. ne (sym z))) (+ℤ-idr (F r m j) ∙ figure-groups ps gs hs vs es r (others r a b ne) m j)
+
+  -- both runs, or run 2 only
+  pub booked-moved : (gs : DeltaGroups) → deltasOk gs ≡ true → x < length (gs .first) → x < length (gs .second) → (both : Bool) (book : List ℕ) → Booked q book (figureOf ps gs vs es)
+      → Booked q (moved both q x g gs book) (figureOf ps (withGroup both x g gs) vs es)
+  unfolding moved
+  booked-moved gs ok lt1 lt2 true book B =
+      let first : DeltaGroups = record { first = set (gs .first) x g; second = gs .second } in
+      booked-run 2 (omega arith) (omega arith) first (withGroup true x g gs) (deltas-in gs ok 2) lt2 refl (λ r a b ne. let z : r ≡ 1 = omega (arith, ne) in rw z refl) _
+      (booked-run 1 (omega arith) (omega arith) gs first (deltas-in gs ok 1) lt1 refl (λ r a b ne. rw (ne-eqb r 1 ne) refl) book B)
+  booked-moved gs ok lt1 lt2 false book B =
+      booked-run 2 (omega arith) (omega arith) gs (withGroup false x g gs) (deltas-in gs ok 2) lt2 refl (λ r a b ne. let z : r ≡ 1 = omega (arith, ne) in rw z refl) book B

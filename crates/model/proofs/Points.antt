@@ -46,7 +46,7 @@ selected-none p vs a run = rw (own-none 1, own-none 2) (go (eqb run 1))
     go false = refl
 
 -- a free point has no versions
-free-empty : (ps : List PointRecord) (p : ℕ) (vs : List VersionRecord) → isActive (pointAt ps p) ≡ false → all (tenanted ps) vs ≡ true → empty p vs
+pub free-empty : (ps : List PointRecord) (p : ℕ) (vs : List VersionRecord) → isActive (pointAt ps p) ≡ false → all (tenanted ps) vs ≡ true → empty p vs
 free-empty ps p vs n a = all-mono (tenanted ps) (tenanted ps) (λ (v : VersionRecord). not (isAt p v)) (λ v t _. go v t (isAt p v) refl) vs a a
   where
     go : (v : VersionRecord) → tenanted ps v ≡ true → (b : Bool) → isAt p v ≡ b → not b ≡ true
@@ -76,7 +76,7 @@ module _ (ps : List PointRecord) (p : ℕ) (r : PointRecord) where
       go v t (yes e) = ap (λ (i : ℕ). isActive (pointAt (withPoint ps p r) i)) e ∙ ap isActive (put-same ps p r lo hi) ∙ on
       go v t (no ne) = ap isActive (put-other ps p (v .point .0) r ne) ∙ t
 
-  homes-freed : (vs : List VersionRecord) → empty p vs → all (tenanted ps) vs ≡ true → all (tenanted (withPoint ps p r)) vs ≡ true
+  pub homes-freed : (vs : List VersionRecord) → empty p vs → all (tenanted ps) vs ≡ true → all (tenanted (withPoint ps p r)) vs ≡ true
   homes-freed vs n a =
       all-mono (λ (v : VersionRecord). not (isAt p v)) (tenanted ps) (tenanted (withPoint ps p r))
       (λ v x t. ap isActive (put-other ps p (v .point .0) r (eqb-false (v .point .0) p (not-true (isAt p v) x))) ∙ t) vs n a

@@ -18,6 +18,7 @@ use Rattle.state.specs.declared.Opening.{Opening}
 use Rattle.state.specs.declared.PointRecord.{PointRecord}
 use Rattle.state.specs.declared.VersionRecord.{VersionRecord}
 use Rattle.state.proofs.Kept.{settle-same, settled-versions}
+use Rattle.state.proofs.Picks.{selected-same}
 use Rattle.model.specs.Call.{closes, issues, lengthsOf}
 use Rattle.model.specs.Plain.{worked, after, energiesOf, logOf, schedulesOf}
 use Rattle.model.proofs.Amends.{Stored}
@@ -98,7 +99,7 @@ issue-granted r e d s h st H o P =
             pointed = K .pointed;
             versioned = versioned-restated vs ws (settled-restated r vs) (d .frame .opening) (d .points) (K .versioned);
             stored = stored-restated vs ws (settled-restated r vs) (d .frame .opening .quarters) (s .values) (energiesOf h) (K .stored);
-            booked = booked-same (d .frame .opening .quarters) (s .book) _ _ (λ run k j _ _ _ _. figure-versions (d .points) (d .frame .groups) vs ws (energiesOf h) (settle-same r vs) run k j) (K .booked);
+            booked = booked-same (d .frame .opening .quarters) (s .book) _ _ (λ run k j _ _ _ _. figure-versions (d .points) (d .frame .groups) vs ws (energiesOf h) run (λ i. selected-same run i vs ws (λ x. settle-same r vs x i)) k j) (K .booked);
             valuesLong = K .valuesLong;
             logLong = K .logLong;
             logged = K .logged;

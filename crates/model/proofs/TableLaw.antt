@@ -177,7 +177,7 @@ module _ (v : View) (n : Lengths) where
       said (means-book n (v .frame .opening)) (λ _.
       said (means-not (deltaOk a && (groupOk g && dayOk d)) (means-and (deltaOk a) _ (means-delta a) (λ _. means-and (groupOk g) _ (means-group g) (λ _. means-day d)))) (λ _.
       said (means-lt d (v .frame .day .0)) (λ _.
-      said (means-lt (v .frame .opening .clearing .0) d) (λ _.
+      said (means-lt (v .frame .opening .correction .0) d) (λ _.
       tt)))))
   says (shows r g) =
       said unopened (λ _.

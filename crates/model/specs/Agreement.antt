@@ -18,7 +18,7 @@ use Rattle.state.specs.declared.Opening.{Opening}
 use Rattle.model.specs.Call.{Call, Stores, Taken, Lent, Told, told, Reply}
 use Rattle.model.specs.Causes.{takes}
 use Rattle.model.specs.Log.{logNumbers}
-use Rattle.model.specs.Plain.{plainReplies, plainEnd, openingOf, versionsOf, logOf, figure, outside, schedule, surplusAt, shortfallAt}
+use Rattle.model.specs.Plain.{plainReplies, plainEnd, openingOf, groupsOf, versionsOf, logOf, figure, outside, schedule, surplusAt, shortfallAt}
 use Rattle.model.specs.Step.{step, replyOf}
 
 -- the running desk, with the stores of its opening as the last call left them
@@ -99,11 +99,13 @@ shortfallIn r run g q = signed (over (bookWord r run (groupRow g) q) (scheduleWo
 
 -- "After every such list, whichever calls are refused, both desks have given the same answer to each call, show's row included. They have
 -- the same versions, each with the same status, the same log rows in the same order, and the same figure for each run, row and quarter
--- hour. In both, for each run and quarter hour, the 64 group figures add up to the outside exchange"; document 02: "both desks have the same schedules
--- and reports", and "in each run and quarter hour surplus minus shortfall, added over all groups, is the schedules' sum minus the outside exchange"
+-- hour. In both, for each run and quarter hour, the 64 group figures add up to the outside exchange"; document 02: "equal books, each
+-- run under its own delta groups", "both desks have the same schedules and reports", and "in each run and quarter hour surplus minus shortfall, added over
+-- all groups, is the schedules' sum minus the outside exchange"
 pub record Agree (given : List Reply) (r : Running) (plain : List Reply) (h : List Told) : Type 0 where
   pub answers : given ≡ plain
   pub opening : r .desk .frame .opening ≡ openingOf h
+  pub deltaGroups : r .desk .frame .groups ≡ groupsOf h
   pub versions : versionsIn (r .desk) ≡ versionsOf h
   pub log : take (4 * r .desk .frame .used) (r .stores .log) ≡ logNumbers (logOf h)
   pub figures : (run k q : ℕ) → 1 ≤ run → run ≤ runs → k < runRows → q < r .desk .frame .opening .quarters → bookFigure r run k q ≡ figure h run k q

@@ -23,7 +23,7 @@ use Rattle.model.specs.Log.{due}
 use Rattle.model.specs.View.{View}
 use Rattle.model.specs.declared.Asks.{Asks}
 use Rattle.model.specs.declared.Cause.{Cause}
-use Rattle.model.specs.declared.Cause.the-variants.{NotOpen, WrongLength, BadField, OpenAgain, BadOpening, PastDay, AfterCorrection, AfterClearing, PointActive, SameSeries, NotActive, HasVersion, TooEarly, VersionPresent, VersionBelow, NoVersion, NoticeBelow, NotCheckData, NoRow, NoLogRow, CloseTooEarly, AlreadyClosed, FirstRunOpen, NotClosed, AlreadyIssued}
+use Rattle.model.specs.declared.Cause.the-variants.{NotOpen, WrongLength, BadField, OpenAgain, BadOpening, PastDay, AfterCorrection, TooLate, PointActive, SameSeries, NotActive, HasVersion, TooEarly, VersionPresent, VersionBelow, NoVersion, NoticeBelow, NotCheckData, NoRow, NoLogRow, CloseTooEarly, AlreadyClosed, FirstRunOpen, NotClosed, AlreadyIssued}
 use Rattle.model.specs.declared.Due.{Due}
 use Rattle.model.specs.declared.Due.the-variants.{Nothing, Row}
 use Rattle.model.specs.declared.Ruling.{Ruling}
@@ -250,7 +250,7 @@ terms (assigns a g d) =
           (rule (otherLengths theBook n (v .frame .opening)) WrongLength
           (rule (not (deltaOk a && (groupOk g && dayOk d))) BadField
           (rule (ltb d (v .frame .day .0)) PastDay
-          (rule (ltb (v .frame .opening .clearing .0) d) AfterClearing
+          (rule (ltb (v .frame .opening .correction .0) d) TooLate
           []))));
     }
 terms (shows r g) =
@@ -323,7 +323,7 @@ terms (lodges g d es) =
           (rule (otherLengths theSchedules n (v .frame .opening)) WrongLength
           (rule (not (lodgeOk g d (v .frame .opening .quarters) es)) BadField
           (rule (ltb d (v .frame .day .0)) PastDay
-          (rule (ltb (v .frame .opening .clearing .0) d) AfterClearing
+          (rule (ltb (v .frame .opening .clearing .0) d) TooLate
           []))));
     }
 terms (reports r g) =

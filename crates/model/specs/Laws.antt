@@ -7,12 +7,14 @@ use mathlib.Core.Logic.{_⊎_}
 use lib.Dec.{eqb}
 use lib.IntN.{ℤ, pos, _+ℤ_, _-ℤ_}
 use lib.ListN.{length, getD}
+use Rattle.quantity.specs.Sum.{sumTo}
 use Rattle.quantity.specs.Word.{word}
 use Rattle.state.specs.Point.{activePoint}
 use Rattle.state.specs.Selection.{own, selected, SameVersion, versionOf}
 use Rattle.state.specs.Settling.{Settles}
 use Rattle.state.specs.Status.{statusNumber, isCheck}
 use Rattle.state.specs.Version.{recordAt, restatus, isVersion}
+use Rattle.state.specs.declared.DeltaGroups.{DeltaGroups}
 use Rattle.state.specs.declared.Runs.{Runs}
 use Rattle.state.specs.declared.Selection.{Selection}
 use Rattle.state.specs.declared.Selection.the-variants.{None, Selected}
@@ -20,7 +22,7 @@ use Rattle.state.specs.declared.Status.{Status}
 use Rattle.state.specs.declared.Status.the-variants.{Check}
 use Rattle.state.specs.declared.VersionRecord.{VersionRecord}
 use Rattle.state.specs.declared.VersionRow.{VersionRow}
-use Rattle.model.specs.Call.{Call, opens, activates, deactivates, submits, notices, assigns, shows, asks, closes, issues, lodges, reports, Lengths, Told, causeNumber}
+use Rattle.model.specs.Call.{Call, opens, activates, deactivates, submits, notices, assigns, shows, asks, closes, issues, lodges, reports, Lengths, Told, telling, causeNumber}
 use Rattle.model.specs.Causes.{Rule}
 use Rattle.model.specs.Log.{logWords}
 use Rattle.model.specs.Plain.{Worked}
@@ -102,6 +104,12 @@ pub record StaysClosed (closed : Runs) (vs ws : List VersionRecord) : Type 0 whe
   pub first : closed .first ≡ true → (p : ℕ) → SameVersion (selected 1 p ws) (selected 1 p vs)
   pub second : closed .second ≡ true → (p : ℕ) → SameVersion (selected 2 p ws) (selected 2 p vs)
 
+-- what a run shows stands still: the version that it selects of every point, with perhaps another status, its delta groups, and each of its figures
+pub record StandsStill (run quarters : ℕ) (vs ws : List VersionRecord) (gs hs : List ℕ) (figure later : (k quarter : ℕ) → ℤ) : Type 0 where
+  pub selection : (p : ℕ) → SameVersion (selected run p ws) (selected run p vs)
+  pub groups : hs ≡ gs
+  pub figures : (k q : ℕ) → k < 81 → q < quarters → later k q ≡ figure k q
+
 -- an issue by what the run had of its own at its close: each of these versions gets the status `settled`, one that has not the number selected for its
 -- point then stays, and nothing but a status changes
 pub record IssuesClosed (run settled : ℕ) (closed vs ws : List VersionRecord) : Type 0 where
@@ -156,7 +164,7 @@ pub record SeriesAdds (gs : List ℕ) (k : ℕ) (v : ℤ) : Type 0 where
 
 -- ---- what an accepted call sets
 
--- "The opening gives Q, deadlines and store lengths."
+-- "The opening gives Q, deadlines and store lengths."; document 02: "opening sets both alike"
 pub record Opens (quarters first clearing correction : ℕ) (groups : List ℕ) (n : Lengths) (w : Worked) : Type 0 where
   pub q : w .opening .quarters ≡ quarters
   pub f : w .opening .first .0 ≡ first
@@ -166,13 +174,20 @@ pub record Opens (quarters first clearing correction : ℕ) (groups : List ℕ) 
   pub book : w .opening .book ≡ n .book
   pub log : w .opening .log ≡ n .log
   pub schedules : w .opening .schedules ≡ n .schedules
-  pub given : w .groups ≡ groups
+  pub given1 : w .groups .first ≡ groups
+  pub given2 : w .groups .second ≡ groups
 
 -- an element of a list is another one, and every other as it was; z is read past the end
 pub record Sets {A : Type 0} (z : A) (at : ℕ) (x : A) (before after : List A) : Type 0 where
   pub there : at < length before → getD after at z ≡ x
   pub others : (j : ℕ) → (j ≡ at → ⊥) → getD after j z ≡ getD before j z
   pub size : length after ≡ length before
+
+-- document 02: "Assign up to day C sets both, as before; after C and up to K it sets run 2 only."
+pub record Allots (clearing day area group : ℕ) (before after : DeltaGroups) : Type 0 where
+  pub early : day ≤ clearing → Sets 0 area group (before .first) (after .first)
+  pub late : clearing < day → after .first ≡ before .first
+  pub second : Sets 0 area group (before .second) (after .second)
 
 -- "Each submission makes a version that takes a row of values": behind those held, with the next row; "Status 2 if day ≤ F, else 1."
 pub record Delivers (point version day : ℕ) (energies : List ℤ) (before after : Worked) : Type 0 where
@@ -240,3 +255,32 @@ dayBy (closes r d) e = d
 dayBy (issues r d) e = d
 dayBy (lodges g d es) e = d
 dayBy (reports r g) e = e
+
+-- ---- lists that differ in delta groups only
+
+-- what a call says beside delta groups: an assignment nothing, an opening all but its 17 groups
+abbrev pub besideGroups : Told → List Told
+besideGroups t = beside (t .lengths) (t .call)
+  where
+    beside : Lengths → Call → List Told
+    beside n (opens q f c k gs) = telling n (opens q f c k []) ∷ []
+    beside n (activates p k a b d) = telling n (activates p k a b d) ∷ []
+    beside n (deactivates p d) = telling n (deactivates p d) ∷ []
+    beside n (submits p x d es) = telling n (submits p x d es) ∷ []
+    beside n (notices p x y d) = telling n (notices p x y d) ∷ []
+    beside n (assigns a g d) = []
+    beside n (shows r g) = telling n (shows r g) ∷ []
+    beside n (asks p x) = telling n (asks p x) ∷ []
+    beside n (closes r d) = telling n (closes r d) ∷ []
+    beside n (issues r d) = telling n (issues r d) ∷ []
+    beside n (lodges g d es) = telling n (lodges g d es) ∷ []
+    beside n (reports r g) = telling n (reports r g) ∷ []
+
+-- the same of a list
+unfoldable pub groupless : List Told → List Told
+groupless [] = []
+groupless (t ∷ h) = besideGroups t ++ groupless h
+
+-- the 64 group figures of each run and quarter hour add up to the same; "Rows 0..63 are groups 1..64"
+abbrev pub SameTotals : (quarters : ℕ) (figures others : (run k quarter : ℕ) → ℤ) → Type 0
+SameTotals n f g = (run q : ℕ) → 1 ≤ run → run ≤ 2 → q < n → sumTo 64 (λ (i : ℕ). f run (i - 1) q) ≡ sumTo 64 (λ (i : ℕ). g run (i - 1) q)

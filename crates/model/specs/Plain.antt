@@ -12,8 +12,10 @@ use Rattle.book.specs.Place.{groupRow}
 use Rattle.deviation.specs.Deviation.{surplus, shortfall}
 use Rattle.state.specs.Change.{submitted, noticed, settledBy}
 use Rattle.state.specs.Desk.{unopened, noRun, frameOf, flagged}
+use Rattle.state.specs.Groups.{alike, setsBoth, withGroup}
 use Rattle.state.specs.Point.{freePoint, activePoint, withPoint}
 use Rattle.state.specs.Version.{newVersion, held}
+use Rattle.state.specs.declared.DeltaGroups.{DeltaGroups}
 use Rattle.state.specs.declared.Opening.{Opening}
 use Rattle.state.specs.declared.PointRecord.{PointRecord}
 use Rattle.state.specs.declared.Runs.{Runs}
@@ -30,13 +32,13 @@ use Rattle.model.specs.declared.LogRow.{LogRow}
 use Rattle.model.specs.declared.Ruling.{Ruling}
 use Rattle.model.specs.declared.Ruling.the-variants.{Fine, Refuse}
 
--- what the plain desk works out: the opening, the day, the points, the delta groups, the versions, the energies of the submissions in their
+-- what the plain desk works out: the opening, the day, the points, the delta groups of each run, the versions, the energies of the submissions in their
 -- order, the log rows, the runs closed, the runs issued, the schedules lodged
 pub record Worked : Type 0 where
   pub opening : Opening
   pub day : ℕ
   pub points : List PointRecord
-  pub groups : List ℕ
+  pub groups : DeltaGroups
   pub versions : List VersionRecord
   pub energies : List (List ℤ)
   pub log : List LogRow
@@ -45,12 +47,12 @@ pub record Worked : Type 0 where
   pub schedules : List (List ℤ)
 
 -- the same of its parts
-abbrev pub worked : Opening → (day : ℕ) → List PointRecord → (groups : List ℕ) → List VersionRecord → List (List ℤ) → List LogRow → (closed issued : Runs) → (schedules : List (List ℤ)) → Worked
+abbrev pub worked : Opening → (day : ℕ) → List PointRecord → DeltaGroups → List VersionRecord → List (List ℤ) → List LogRow → (closed issued : Runs) → (schedules : List (List ℤ)) → Worked
 worked o d ps gs vs es l c r ss = record { opening = o; day = d; points = ps; groups = gs; versions = vs; energies = es; log = l; closed = c; issued = r; schedules = ss }
 
 -- "one list, empty at first": no group has lodged
 abbrev pub nothingYet : Worked
-nothingYet = worked unopened 0 (replicate points freePoint) (replicate deltas 0) [] [] [] noRun noRun (replicate groupCount [])
+nothingYet = worked unopened 0 (replicate points freePoint) (alike (replicate deltas 0)) [] [] [] noRun noRun (replicate groupCount [])
 
 -- what a call sets
 pub data Setting : Type 0 where
@@ -74,13 +76,14 @@ abbrev pub withEnergies : List ℤ → Worked → Worked
 withEnergies es w = worked (w .opening) (w .day) (w .points) (w .groups) (w .versions) (w .energies ++ (es ∷ [])) (w .log) (w .closed) (w .issued) (w .schedules)
 
 -- one setting more. "The opening gives Q, deadlines and store lengths." "A point is active from activation to deactivation." "A delta's group is
--- the one set last." "Each submission makes a version that takes a row of values; its status comes from its day, then from later notices and
+-- the one set last.", for its run: document 02, "opening sets both alike", assign both or "run 2 only". "Each submission makes a version that takes a row of values; its status comes from its day, then from later notices and
 -- settles by the rules above." Document 02: "close (records that the run is closed) and issue (sets status 3 or 5)"; a schedule "may be replaced"
 abbrev pub setIn : Worked → Setting → Worked
-setIn w (opened o gs) = worked o (w .day) (w .points) gs (w .versions) (w .energies) (w .log) (w .closed) (w .issued) (w .schedules)
+setIn w (opened o gs) = worked o (w .day) (w .points) (alike gs) (w .versions) (w .energies) (w .log) (w .closed) (w .issued) (w .schedules)
 setIn w (dated d) = worked (w .opening) d (w .points) (w .groups) (w .versions) (w .energies) (w .log) (w .closed) (w .issued) (w .schedules)
 setIn w (placed p r) = worked (w .opening) (w .day) (withPoint (w .points) p r) (w .groups) (w .versions) (w .energies) (w .log) (w .closed) (w .issued) (w .schedules)
-setIn w (allotted a g) = worked (w .opening) (w .day) (w .points) (set (w .groups) a g) (w .versions) (w .energies) (w .log) (w .closed) (w .issued) (w .schedules)
+setIn w (allotted a g) =
+    worked (w .opening) (w .day) (w .points) (withGroup (setsBoth (w .opening) (w .day)) a g (w .groups)) (w .versions) (w .energies) (w .log) (w .closed) (w .issued) (w .schedules)
 setIn w (delivered p x es) =
     withEnergies es (withVersions p (submitted (newVersion (w .opening .first .0) (length (w .versions)) p x (w .day)) (w .versions)) w)
 setIn w (judged p x y) = withVersions p (noticed (w .opening .clearing .0) p x y (w .day) (w .versions)) w
@@ -128,8 +131,8 @@ dayOf h = workedOut h .day
 abbrev pub pointsOf : List Told → List PointRecord
 pointsOf h = workedOut h .points
 
--- its delta groups
-abbrev pub groupsOf : List Told → List ℕ
+-- its delta groups, for each run
+abbrev pub groupsOf : List Told → DeltaGroups
 groupsOf h = workedOut h .groups
 
 -- its versions

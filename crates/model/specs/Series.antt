@@ -8,8 +8,10 @@ use lib.ListN.{getD}
 use Rattle.quantity.specs.Limits.{points}
 use Rattle.quantity.specs.Sum.{sumTo}
 use Rattle.book.specs.Place.{groupRow, deltaRow}
+use Rattle.state.specs.Groups.{groupsIn}
 use Rattle.state.specs.Point.{pointAt}
 use Rattle.state.specs.Selection.{selected}
+use Rattle.state.specs.declared.DeltaGroups.{DeltaGroups}
 use Rattle.state.specs.declared.PointState.{PointState}
 use Rattle.state.specs.declared.PointState.the-variants.{Free, Active}
 use Rattle.state.specs.declared.PointRecord.{PointRecord}
@@ -73,9 +75,10 @@ unfoldable pub energy : List (List ℤ) → Selection → (quarter : ℕ) → �
 energy es None q = pos 0
 energy es (Selected r) q = getD (getD es (r .at) []) q (pos 0)
 
--- "A figure is 0 plus what the selected versions' energies add by the table of series, each delta also added to its delta group."
-unfoldable pub figureOf : List PointRecord → (groups : List ℕ) → List VersionRecord → List (List ℤ) → (run k quarter : ℕ) → ℤ
-figureOf ps gs vs es run k q = sumTo points (λ (p : ℕ). adds (sidesOf gs (pointAt ps p)) k (energy es (selected run p vs) q))
+-- "A figure is 0 plus what the selected versions' energies add by the table of series, each delta also added to its delta group."; document 02: "each
+-- run under its own delta groups"
+unfoldable pub figureOf : List PointRecord → DeltaGroups → List VersionRecord → List (List ℤ) → (run k quarter : ℕ) → ℤ
+figureOf ps gs vs es run k q = sumTo points (λ (p : ℕ). adds (sidesOf (groupsIn run gs) (pointAt ps p)) k (energy es (selected run p vs) q))
 
 -- "points of kind 1 with partner 0"
 unfoldable pub isOutside : PointState → Bool

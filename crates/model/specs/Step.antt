@@ -1,8 +1,8 @@
 -- The running desk: one step on its state and what is lent to it, refusals included. It is total: any state, any stores, any numbers.
 use Prim.Native.Nat.{ℕ, _*_}
-use mathlib.Core.Bool.{cond, not, _&&_}
+use mathlib.Core.Bool.{Bool, cond, not, _&&_}
 use mathlib.Core.List.{List, [], map}
-use lib.ListN.{getD, set, replicate}
+use lib.ListN.{getD, replicate}
 use Rattle.quantity.specs.Limits.{bookRows, scheduleRows}
 use Rattle.quantity.specs.Word.{word, signed}
 use Rattle.book.specs.Place.{groupRow, deltaRow, rowStart}
@@ -14,13 +14,16 @@ use Rattle.deviation.specs.Month.{monthSurplus, monthShortfall}
 use Rattle.deviation.specs.Place.{scheduleStart}
 use Rattle.state.specs.Change.{submitted, noticed, submittedDesk, noticedDesk, settledDesk}
 use Rattle.state.specs.Desk.{openDesk, versionsIn, rowsUsed, deskWith, theDay, theGroups, theUsed, theClosed, theIssued, thePoints, flagged}
+use Rattle.state.specs.Groups.{groupsIn, setsBoth, withGroup}
 use Rattle.state.specs.Point.{freePoint, activePoint, pointAt, withPoint}
 use Rattle.state.specs.Selection.{orElse}
 use Rattle.state.specs.Valid.{validDesk}
 use Rattle.state.specs.Version.{newVersion, held}
+use Rattle.state.specs.declared.DeltaGroups.{DeltaGroups}
 use Rattle.state.specs.declared.Desk.{Desk}
 use Rattle.state.specs.declared.Held.{Held}
 use Rattle.state.specs.declared.Held.the-variants.{Absent, Has}
+use Rattle.state.specs.declared.PointState.{PointState}
 use Rattle.state.specs.declared.Selection.{Selection}
 use Rattle.state.specs.declared.Selection.the-variants.{None, Selected}
 use Rattle.state.specs.declared.VersionRecord.{VersionRecord}
@@ -66,24 +69,26 @@ amendSides run q s old new values book = amendSide Out run q (s .from) old new v
 unfoldable pub amendRun : (run quarters : ℕ) → Sides → (old new : Selection) (values : List ℕ) → List ℕ → List ℕ
 amendRun run q s old new values book = cond (differ old new) (amendSides run q s old new values book) book
 
--- both runs
-abbrev pub amendBy : (quarters : ℕ) → Sides → Turn → (values : List ℕ) → List ℕ → List ℕ
-amendBy q s t values book =
-    amendRun 2 q s (orElse (t .old2) (t .old1)) (orElse (t .new2) (t .new1)) values (amendRun 1 q s (t .old1) (t .new1) values book)
+-- both runs of a point, "each run under its own delta groups"
+abbrev pub amendBy : (quarters : ℕ) → DeltaGroups → PointState → Turn → (values : List ℕ) → List ℕ → List ℕ
+amendBy q gs here t values book =
+    amendRun 2 q (sidesOf (groupsIn 2 gs) here) (orElse (t .old2) (t .old1)) (orElse (t .new2) (t .new1)) values
+    (amendRun 1 q (sidesOf (groupsIn 1 gs) here) (t .old1) (t .new1) values book)
 
 -- the book after a change of the versions of a point
-unfoldable pub amended : (quarters : ℕ) → Sides → (point : ℕ) (before after : List VersionRecord) (values : List ℕ) → List ℕ → List ℕ
-amended q s p vs ws values book = amendBy q s (turnOf vs ws p) values book
+unfoldable pub amended : (quarters : ℕ) → DeltaGroups → PointState → (point : ℕ) (before after : List VersionRecord) (values : List ℕ) → List ℕ → List ℕ
+amended q gs here p vs ws values book = amendBy q gs here (turnOf vs ws p) values book
 
--- "The delta moves to the group in both runs.": out of the old group's row, into the new one's
+-- "The delta moves to the group": out of the old group's row, into the new one's
 unfoldable pub moveRun : (run quarters area old new : ℕ) → List ℕ → List ℕ
 moveRun run q a old new book =
     posted In (posted Out book (rowStart q run (groupRow old)) q book (rowStart q run (deltaRow a)))
     (rowStart q run (groupRow new)) q book (rowStart q run (deltaRow a))
 
--- in both runs
-unfoldable pub moved : (quarters area old new : ℕ) → List ℕ → List ℕ
-moved q a old new book = moveRun 2 q a old new (moveRun 1 q a old new book)
+-- "in both runs"; document 02: "after C and up to K .. run 2 only"; each out of its own old group
+unfoldable pub moved : (both : Bool) (quarters area new : ℕ) → DeltaGroups → List ℕ → List ℕ
+moved both q a new gs book =
+    moveRun 2 q a (getD (groupsIn 2 gs) a 0) new (cond both (moveRun 1 q a (getD (groupsIn 1 gs) a 0) new book) book)
 
 -- ---- the calls, accepted
 
@@ -121,7 +126,7 @@ abbrev pub followed : Desk → Stores → (point day : ℕ) (after : List Versio
 followed d s p day ws values =
     record {
       values = values;
-      book = amended (d .frame .opening .quarters) (sidesOf (d .frame .groups) (pointAt (d .points) p)) p (versionsIn d) ws values (s .book);
+      book = amended (d .frame .opening .quarters) (d .frame .groups) (pointAt (d .points) p) p (versionsIn d) ws values (s .book);
       log = logged (d .frame .used) (due (versionsIn d) ws p day) (s .log);
       schedules = s .schedules;
     }
@@ -153,7 +158,10 @@ granting d s (notices p x y day) =
     let ws = noticed (d .frame .opening .clearing .0) p x y day (versionsIn d) in
     accept (followedDesk d p day ws (noticedDesk d (held p x (versionsIn d)) y day)) (followed d s p day ws (s .values))
 granting d s (assigns a g day) =
-    accept (deskWith (deskWith d (theGroups (set (d .frame .groups) a g))) (theDay day)) (withBook s (moved (d .frame .opening .quarters) a (getD (d .frame .groups) a 0) g (s .book)))
+    let both = setsBoth (d .frame .opening) day in
+    accept
+    (deskWith (deskWith d (theGroups (withGroup both a g (d .frame .groups)))) (theDay day))
+    (withBook s (moved both (d .frame .opening .quarters) a g (d .frame .groups) (s .book)))
 granting d s (shows r g) =
     record {
       answer = Accepted;

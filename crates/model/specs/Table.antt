@@ -153,7 +153,7 @@ module _ (v : View) (n : Lengths) where
   abbrev pub OtherSchedules : Type 0
   OtherSchedules = n .schedules ≡ v .frame .opening .schedules → ⊥
 
-  -- "Checks go down the table, only those that fit the call"
+  -- "Checks go down the table, only those that fit the call"; document 02: 26 is "a day above K for assign, and stays day C for schedules"
   abbrev pub table : Call → Table
   table (opens q f c k gs) =
       line 6 (Unopened → ⊥)
@@ -205,7 +205,7 @@ module _ (v : View) (n : Lengths) where
       (line 2 OtherBook
       (line 3 ((a ≤ 16) × (Between 1 64 g × (d ≤ 400)) → ⊥)
       (line 5 (d < v .frame .day .0)
-      (line 26 (v .frame .opening .clearing .0 < d)
+      (line 26 (v .frame .opening .correction .0 < d)
       end))))
   table (shows r g) =
       line 1 Unopened

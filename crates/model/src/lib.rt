@@ -23,7 +23,7 @@ pub enum Cause {
     // 11 (A01)
     AfterCorrection,
     // 26
-    AfterClearing,
+    TooLate,
     // 21
     PointActive,
     // 22

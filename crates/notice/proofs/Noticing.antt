@@ -32,7 +32,6 @@ use Rattle.state.specs.declared.Effect.{Effect}
 use Rattle.model.specs.Call.{Stores, notices}
 use Rattle.model.specs.Causes.{rules, firstOf, notCheck, logFull}
 use Rattle.model.specs.Log.{turnOf, due}
-use Rattle.model.specs.Series.{sidesOf}
 use Rattle.model.specs.Step.{amendBy, amended, granting}
 use Rattle.model.specs.View.{viewOf}
 use Rattle.model.specs.declared.Answer.the-variants.{Accepted}
@@ -140,6 +139,6 @@ module _ (d : Desk) (p x y day : ℕ) (values book log : List ℕ) (h : Held) (t
         answered = refl;
         held = n .desk d stood .1 ∙ rw (H, D);
         valued = refl;
-        booked = n .booked ∙ ap (λ (u : Turn). amendBy (d .frame .opening .quarters) (sidesOf (d .frame .groups) here) u values book) T ∙ rw known;
+        booked = n .booked ∙ ap (λ (u : Turn). amendBy (d .frame .opening .quarters) (d .frame .groups) here u values book) T ∙ rw known;
         noted = n .noted ∙ rw D;
       }

@@ -22,7 +22,6 @@ use Rattle.state.specs.declared.VersionRecord.{VersionRecord}
 use Rattle.state.specs.Effect.{changedBy, Fits}
 use Rattle.state.specs.declared.Effect.{Effect}
 use Rattle.model.specs.Log.{logged, usedAfter}
-use Rattle.model.specs.Series.{sidesOf}
 use Rattle.model.specs.Step.{amendBy}
 use Rattle.model.specs.declared.Due.{Due}
 use Rattle.model.specs.declared.Turn.{Turn}
@@ -71,5 +70,5 @@ pub record NoticeFits (f : Frame) (here : PointState) (h : Held) (values book lo
 -- what the notice makes of each desk with this frame in whose versions the record found stands, and of the book and the log
 pub record NoticeEffect (f : Frame) (here : PointState) (h : Held) (t : Turn) (due : Due) (y day : ℕ) (values book log : List ℕ) (e : Effect) (book′ log′ : List ℕ) : Type 0 where
   pub desk : (d : Desk) → StandsIn (d .versions) h → Fits (withFrame d f) e × (changedBy (withFrame d f) e ≡ deskWith (deskWith (noticedDesk (withFrame d f) h y day) (theUsed (usedAfter due (f .used)))) (theDay day))
-  pub booked : book′ ≡ amendBy (f .opening .quarters) (sidesOf (f .groups) here) t values book
+  pub booked : book′ ≡ amendBy (f .opening .quarters) (f .groups) here t values book
   pub noted : log′ ≡ logged (f .used) due log

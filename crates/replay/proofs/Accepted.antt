@@ -92,7 +92,7 @@ module _ (d : Desk) (s : Stores) (h : List Told) (H : Holds d s h) where
         row = due (versionsIn d) ws p e;
         log = refl;
         used = refl;
-        book = length-amended (d .frame .opening .quarters) (granting d s c .stores .values) _ p (versionsIn d) ws (s .book);
+        book = length-amended (d .frame .opening .quarters) (granting d s c .stores .values) (d .frame .groups) _ p (versionsIn d) ws (s .book);
         schedules = refl;
         kept = left-most (d .frame .opening) s (granting d s c .stores);
         rows = λ base R. rows-more (energiesOf h) base (s .values) (d .frame .count) (d .frame .opening .quarters) es (full p x e es d s h H s P) R;
@@ -105,7 +105,7 @@ module _ (d : Desk) (s : Stores) (h : List Told) (H : Holds d s h) where
         row = due (versionsIn d) ws p e;
         log = refl;
         used = refl;
-        book = length-amended (d .frame .opening .quarters) (s .values) _ p (versionsIn d) ws (s .book);
+        book = length-amended (d .frame .opening .quarters) (s .values) (d .frame .groups) _ p (versionsIn d) ws (s .book);
         schedules = refl;
         kept = left-most (d .frame .opening) s (granting d s c .stores);
         rows = λ base R. R;
@@ -116,7 +116,7 @@ module _ (d : Desk) (s : Stores) (h : List Told) (H : Holds d s h) where
         row = Nothing;
         log = refl;
         used = refl;
-        book = length-moved (d .frame .opening .quarters) a _ g (s .book);
+        book = length-moved _ (d .frame .opening .quarters) a g (d .frame .groups) (s .book);
         schedules = refl;
         kept = λ x y z. left-book (d .frame .opening) s (granting d s (assigns a g e) .stores) y;
         rows = λ base R. R;

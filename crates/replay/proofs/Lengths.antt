@@ -1,6 +1,7 @@
 -- Whatever a call posts, in any book, the book keeps its length. Assumes nothing.
 use Prim.Native.Nat.{ℕ, _*_}
 use mathlib.Core.Path.{_≡_, refl, _∙_}
+use mathlib.Core.Bool.{Bool}
 use mathlib.Core.List.{List}
 use native.Mathlib.Omega.{arith}
 use lib.ListN.{length, length-append, length-take, length-drop}
@@ -12,10 +13,13 @@ use Rattle.book.specs.declared.Way.{Way}
 use Rattle.book.specs.declared.Way.the-variants.{In, Out}
 use Rattle.book.proofs.Rows.{length-zip}
 use Rattle.state.specs.Selection.{own, orElse}
+use Rattle.state.specs.declared.DeltaGroups.{DeltaGroups}
+use Rattle.state.specs.declared.PointState.{PointState}
 use Rattle.state.specs.declared.Selection.{Selection}
 use Rattle.state.specs.declared.Selection.the-variants.{None, Selected}
 use Rattle.state.specs.declared.VersionRecord.{VersionRecord}
 use Rattle.model.specs.Log.{differ}
+use Rattle.model.specs.Series.{sidesOf}
 use Rattle.model.specs.Step.{postFrom, amendRow, amendSide, amendSides, amendRun, amended, moveRun, moved}
 use Rattle.model.specs.declared.Side.{Side}
 use Rattle.model.specs.declared.Side.the-variants.{Outside, Group, Delta}
@@ -57,16 +61,17 @@ module _ (q : ℕ) (values : List ℕ) where
       by-test (λ (l : List ℕ). length l ≡ length book) (differ old new) _ book (λ _. amend-sides run old new s book) (λ _. refl)
 
   -- a change of the versions of a point
-  pub length-amended : (s : Sides) (p : ℕ) (vs ws : List VersionRecord) (book : List ℕ) → length (amended q s p vs ws values book) ≡ length book
+  pub length-amended : (gs : DeltaGroups) (here : PointState) (p : ℕ) (vs ws : List VersionRecord) (book : List ℕ) → length (amended q gs here p vs ws values book) ≡ length book
   unfolding amended
-  length-amended s p vs ws book =
-      amend-run 2 s (orElse (own 2 p vs) (own 1 p vs)) (orElse (own 2 p ws) (own 1 p ws)) _ ∙ amend-run 1 s (own 1 p vs) (own 1 p ws) book
+  length-amended gs here p vs ws book =
+      amend-run 2 (sidesOf (gs .second) here) (orElse (own 2 p vs) (own 1 p vs)) (orElse (own 2 p ws) (own 1 p ws)) _ ∙ amend-run 1 (sidesOf (gs .first) here) (own 1 p vs) (own 1 p ws) book
 
 move-run : (run q a old new : ℕ) (book : List ℕ) → length (moveRun run q a old new book) ≡ length book
 unfolding moveRun
 move-run run q a old new book = length-posted In _ _ q book _ ∙ length-posted Out book _ q book _
 
 -- a delta that moves to another group
-pub length-moved : (q a old new : ℕ) (book : List ℕ) → length (moved q a old new book) ≡ length book
+pub length-moved : (both : Bool) (q a new : ℕ) (gs : DeltaGroups) (book : List ℕ) → length (moved both q a new gs book) ≡ length book
 unfolding moved
-length-moved q a old new book = move-run 2 q a old new _ ∙ move-run 1 q a old new book
+length-moved both q a new gs book =
+    move-run 2 q a _ new _ ∙ by-test (λ (l : List ℕ). length l ≡ length book) both _ book (λ _. move-run 1 q a _ new book) (λ _. refl)

@@ -50,7 +50,7 @@ pub fn lodge_ruling(d: Desk, size: u64, group: u64, day: Day, series: &[u64]) ->
     let fits = lodge_ok(group, day, opening.quarters, series);
     let v2 = or_if(v1, !fits, Cause::BadField);
     let v3 = or_if(v2, day.0 < frame.day.0, Cause::PastDay);
-    or_if(v3, opening.clearing.0 < day.0, Cause::AfterClearing)
+    or_if(v3, opening.clearing.0 < day.0, Cause::TooLate)
 }
 
 // The schedules and the desk after a lodging that is not refused: group g has row g - 1.

@@ -2,6 +2,7 @@
 use Prim.Native.Nat.{ℕ, zero, suc, _+_, _*_, _%_, _≤_, _<_}
 use mathlib.Core.Path.{_≡_, refl}
 use mathlib.Core.Bool.{Bool, true, false, _&&_, false≢true}
+use mathlib.Core.List.{List}
 use native.Mathlib.Nat.{le-div-iff-mul-le}
 use native.Mathlib.Omega.{arith}
 use borrow.Author.Tests.{leb-true, ltb-true, eqb-true, le-leb, eq-eqb}
@@ -13,9 +14,11 @@ use Rattle.quantity.proofs.Tests.{by-test, and-left, and-right, and-both, withi
 use Rattle.quantity.specs.Limits.{quartersOk, deadlinesOk, dayOk, groupOk, areaOk, pointOk, versionOk}
 use Rattle.quantity.specs.Lists.{all}
 use Rattle.state.specs.Desk.{rowsIn, logRowsIn, versionsIn, rowsUsed}
+use Rattle.state.specs.Groups.{groupsIn}
 use Rattle.state.specs.Point.{freePoint, pointAt, seriesOk}
-use Rattle.state.specs.Valid.{openingOk, stateOk, pointRecordOk, versionRecordOk, frameOk, validDesk, SeriesIn, Sound}
+use Rattle.state.specs.Valid.{openingOk, stateOk, pointRecordOk, versionRecordOk, deltasOk, frameOk, validDesk, SeriesIn, Sound}
 use Rattle.state.specs.Version.{emptyVersion}
+use Rattle.state.specs.declared.DeltaGroups.{DeltaGroups}
 use Rattle.state.specs.declared.Desk.{Desk}
 use Rattle.state.specs.declared.Opening.{Opening}
 
@@ -47,6 +50,12 @@ module _ (o : Opening) (low : 1 ≤ o .quarters) where
   pub fit-rows : (n : ℕ) → n * o .quarters ≤ o .values → n ≤ rowsIn o
   fit-rows n h = le-div-iff-mul-le {k = o .quarters} {x = n} {y = o .values} (omega arith) .1 h
 
+-- the delta groups of each run
+pub deltas-in : (gs : DeltaGroups) → deltasOk gs ≡ true → (run : ℕ) → all groupOk (groupsIn run gs) ≡ true
+unfolding deltasOk
+deltas-in gs h run =
+    by-test (λ (l : List ℕ). all groupOk l ≡ true) (eqb run 1) (gs .first) (gs .second) (λ _. and-left (all groupOk (gs .first)) _ h) (λ _. and-right (all groupOk (gs .first)) _ h)
+
 pub sound : (d : Desk) → validDesk d ≡ true → Sound d
 unfolding validDesk frameOk openingOk
 sound d v =
@@ -56,7 +65,7 @@ sound d v =
     let f0 = and-left (openingOk o) _ f in
     let f1 = and-right (openingOk o) _ f in
     let f2 = and-right (dayOk (d .frame .day .0)) _ f1 in
-    let f3 = and-right (all groupOk (d .frame .groups)) _ f2 in
+    let f3 = and-right (deltasOk (d .frame .groups)) _ f2 in
     let f4 = and-right (leb (d .frame .count) 512) _ f3 in
     let q = and-left (quartersOk (o .quarters)) _ f0 in
     let o1 = and-right (quartersOk (o .quarters)) _ f0 in
@@ -71,7 +80,7 @@ sound d v =
       log = eqb-true (o .log % 4) 0 (and-left (eqb (o .log % 4) 0) _ o3);
       schedules = eqb-true (o .schedules) (64 * o .quarters) (and-right (eqb (o .log % 4) 0) _ o3);
       day = leb-true (d .frame .day .0) 400 (and-left (dayOk (d .frame .day .0)) _ f1);
-      groups = and-left (all groupOk (d .frame .groups)) _ f2;
+      groups = and-left (deltasOk (d .frame .groups)) _ f2;
       count = leb-true (d .frame .count) 512 (and-left (leb (d .frame .count) 512) _ f3);
       rows = rows-fit o low (rowsUsed (d .frame)) (leb-true (rowsUsed (d .frame)) (rowsIn o) (and-left (leb (rowsUsed (d .frame)) (rowsIn o)) _ f4));
       used = omega (arith, leb-true (d .frame .used) (logRowsIn o) (and-right (leb (rowsUsed (d .frame)) (rowsIn o)) _ f4));
@@ -92,12 +101,12 @@ whole d s =
     and-both _ _ f (and-both _ _ (s .points) (s .versions))
 
 module _ (d : Desk) (s : Sound d) where
-  -- a delta's group is one of 1 to 64
-  pub group-low : (i : ℕ) → i < length (d .frame .groups) → 1 ≤ getD (d .frame .groups) i 0
-  group-low i h = within-low 1 64 _ (all-in groupOk (d .frame .groups) i 0 (s .groups) h)
+  -- a delta's group is one of 1 to 64, in each run
+  pub group-low : (run i : ℕ) → i < length (groupsIn run (d .frame .groups)) → 1 ≤ getD (groupsIn run (d .frame .groups)) i 0
+  group-low run i h = within-low 1 64 _ (all-in groupOk (groupsIn run (d .frame .groups)) i 0 (deltas-in (d .frame .groups) (s .groups) run) h)
 
-  pub group-high : (i : ℕ) → i < length (d .frame .groups) → getD (d .frame .groups) i 0 ≤ 64
-  group-high i h = within-high 1 64 _ (all-in groupOk (d .frame .groups) i 0 (s .groups) h)
+  pub group-high : (run i : ℕ) → i < length (groupsIn run (d .frame .groups)) → getD (groupsIn run (d .frame .groups)) i 0 ≤ 64
+  group-high run i h = within-high 1 64 _ (all-in groupOk (groupsIn run (d .frame .groups)) i 0 (deltas-in (d .frame .groups) (s .groups) run) h)
 
   -- the state of any point is within the limits
   pub state-in : (p : ℕ) → stateOk (pointAt (d .points) p) ≡ true

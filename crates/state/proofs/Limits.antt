@@ -14,9 +14,10 @@ use Rattle.quantity.proofs.Meanings.{means-le, means-lt, means-eq, means-and, m
 use Rattle.quantity.proofs.Ranges.{means-quarters, means-day, means-deadlines, means-version, means-point, means-area, means-group}
 use Rattle.state.specs.Desk.{rowsIn, logRowsIn, versionsIn, rowsUsed}
 use Rattle.state.specs.Point.{freePoint, seriesOk}
-use Rattle.state.specs.Valid.{openingOk, stateOk, pointRecordOk, versionRecordOk, frameOk, validDesk}
+use Rattle.state.specs.Valid.{openingOk, stateOk, pointRecordOk, versionRecordOk, deltasOk, frameOk, validDesk}
 use Rattle.state.specs.Version.{emptyVersion}
 use Rattle.state.specs.Within.{InTable, OpeningIn, StateIn, RecordIn, Within}
+use Rattle.state.specs.declared.DeltaGroups.{DeltaGroups}
 use Rattle.state.specs.declared.Desk.{Desk}
 use Rattle.state.specs.declared.Opening.{Opening}
 use Rattle.state.specs.declared.PointState.{PointState}
@@ -105,12 +106,12 @@ means-record o low v =
 
 -- cause 1
 pub means-valid : (d : Desk) → Means (validDesk d) (Within d)
-unfolding validDesk frameOk
+unfolding validDesk frameOk deltasOk
 means-valid d =
     means-and (frameOk (d .frame)) _
     (means-and (openingOk o) _ (means-opening o)
     (λ i. means-and (dayOk (d .frame .day .0)) _ (means-day (d .frame .day .0))
-    (λ _. means-and (all groupOk (d .frame .groups)) _ (means-all groupOk (Between 1 64) 0 means-group (d .frame .groups))
+    (λ _. means-and (deltasOk gs) _ (means-and (all groupOk (gs .first)) _ (means-all groupOk (Between 1 64) 0 means-group (gs .first)) (λ _. means-all groupOk (Between 1 64) 0 means-group (gs .second)))
     (λ _. means-and (leb (d .frame .count) 512) _ (means-le (d .frame .count) 512)
     (λ _. means-and (leb (rowsUsed (d .frame)) (rowsIn o)) _ (means-rows o (d .frame .count) (i .0 .0))
     (λ _. means-so (means-le (d .frame .used) (logRowsIn o)) (λ h. omega (arith, h)) (λ h. omega (arith, h))))))))
@@ -119,3 +120,6 @@ means-valid d =
   where
     o : Opening
     o = d .frame .opening
+
+    gs : DeltaGroups
+    gs = d .frame .groups

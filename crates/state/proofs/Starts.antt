@@ -13,7 +13,7 @@ use Rattle.quantity.specs.Lists.{all}
 use Rattle.state.specs.Desk.{openDesk, freshDesk, versionsIn, rowsIn, logRowsIn}
 use Rattle.state.specs.Point.{freePoint, pointAt}
 use Rattle.state.specs.Selection.{best, selected}
-use Rattle.state.specs.Valid.{openingOk, pointRecordOk, frameOk, validDesk}
+use Rattle.state.specs.Valid.{openingOk, pointRecordOk, deltasOk, frameOk, validDesk}
 use Rattle.state.specs.Walk.{walk}
 use Rattle.state.specs.declared.Opening.{Opening}
 use Rattle.state.specs.declared.PointRecord.{PointRecord}
@@ -48,7 +48,7 @@ module _ (o : Opening) (gs : List ℕ) where
 
   -- an opening within its limits gives a desk within its limits
   pub open-valid : openingOk o ≡ true → all groupOk gs ≡ true → validDesk (openDesk o gs) ≡ true
-  unfolding validDesk frameOk all
+  unfolding validDesk frameOk deltasOk all
   open-valid e g = rw (e, g, le-leb 0 (rowsIn o) (omega arith), le-leb 0 (logRowsIn o) (omega arith), all-same pointRecordOk points freePoint refl)
 
 -- "desk not open"

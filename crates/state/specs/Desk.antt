@@ -5,8 +5,10 @@ use mathlib.Core.List.{List}
 use lib.Dec.{eqb}
 use lib.ListN.{take, replicate}
 use Rattle.quantity.specs.Limits.{points, versions, deltas}
+use Rattle.state.specs.Groups.{alike}
 use Rattle.state.specs.Point.{freePoint}
 use Rattle.state.specs.Version.{emptyVersion}
+use Rattle.state.specs.declared.DeltaGroups.{DeltaGroups}
 use Rattle.state.specs.declared.Desk.{Desk}
 use Rattle.state.specs.declared.Frame.{Frame}
 use Rattle.state.specs.declared.Opening.{Opening}
@@ -15,16 +17,16 @@ use Rattle.state.specs.declared.Runs.{Runs}
 use Rattle.state.specs.declared.VersionRecord.{VersionRecord}
 
 -- what stands beside the tables, of its parts
-abbrev pub frameOf : Opening → (day : ℕ) (groups : List ℕ) (count used : ℕ) (closed issued : Runs) → Frame
+abbrev pub frameOf : Opening → (day : ℕ) (groups : DeltaGroups) (count used : ℕ) (closed issued : Runs) → Frame
 frameOf o day gs n m c s = record { opening = o; day = record { 0 = day }; groups = gs; count = n; used = m; closed = c; issued = s }
 
 -- no run is closed, and none is issued
 abbrev pub noRun : Runs
 noRun = record { first = false; second = false }
 
--- "no versions, no log rows used"; "The desk's day is 0 at opening."
+-- "no versions, no log rows used"; "The desk's day is 0 at opening."; document 02: "opening sets both alike"
 abbrev pub openFrame : Opening → (groups : List ℕ) → Frame
-openFrame o gs = frameOf o 0 gs 0 0 noRun noRun
+openFrame o gs = frameOf o 0 (alike gs) 0 0 noRun noRun
 
 -- "all points free, no versions, no log rows used"
 abbrev pub openDesk : Opening → (groups : List ℕ) → Desk
@@ -73,7 +75,7 @@ rowsUsed f = f .count
 -- one thing of the desk, as it is then; of the version table the first `count` records are held
 pub data Thing : Type 0 where
   theDay : (day : ℕ) → Thing
-  theGroups : List ℕ → Thing
+  theGroups : DeltaGroups → Thing
   theUsed : (used : ℕ) → Thing
   theClosed : Runs → Thing
   theIssued : Runs → Thing

@@ -1,6 +1,7 @@
 pub mod Change
 pub mod Desk
 pub mod Effect
+pub mod Groups
 pub mod Point
 pub mod Selection
 pub mod Settling

@@ -8,6 +8,7 @@ use Rattle.quantity.specs.Limits.{mostQuarters, areas, groups as groupCount, la
 use Rattle.quantity.specs.Lists.{all}
 use Rattle.state.specs.Desk.{rowsIn, logRowsIn, versionsIn, rowsUsed}
 use Rattle.state.specs.Point.{seriesOk}
+use Rattle.state.specs.declared.DeltaGroups.{DeltaGroups}
 use Rattle.state.specs.declared.Desk.{Desk}
 use Rattle.state.specs.declared.Frame.{Frame}
 use Rattle.state.specs.declared.Opening.{Opening}
@@ -39,12 +40,16 @@ pointRecordOk r = stateOk (r .state)
 abbrev pub versionRecordOk : (rows : ℕ) → VersionRecord → Bool
 versionRecordOk n v = pointOk (v .point .0) && (versionOk (v .version .0) && ltb (v .row .0) n)
 
+-- the delta groups of both runs
+unfoldable pub deltasOk : DeltaGroups → Bool
+deltasOk gs = all groupOk (gs .first) && all groupOk (gs .second)
+
 -- all but the two tables: what the opening fixed, day, delta groups, the counts, "used rows past the opening lengths included"
 unfoldable pub frameOk : Frame → Bool
 frameOk f =
     openingOk (f .opening)
     && (dayOk (f .day .0)
-    && (all groupOk (f .groups)
+    && (deltasOk (f .groups)
     && (leb (f .count) versions
     && (leb (rowsUsed f) (rowsIn (f .opening))
     && leb (f .used) (logRowsIn (f .opening))))))
@@ -69,7 +74,7 @@ pub record Sound (d : Desk) : Type 0 where
   pub log : d .frame .opening .log % 4 ≡ 0
   pub schedules : d .frame .opening .schedules ≡ scheduleRows * d .frame .opening .quarters
   pub day : d .frame .day .0 ≤ lastDay
-  pub groups : all groupOk (d .frame .groups) ≡ true
+  pub groups : deltasOk (d .frame .groups) ≡ true
   pub count : d .frame .count ≤ versions
   pub rows : rowsUsed (d .frame) * d .frame .opening .quarters ≤ d .frame .opening .values
   pub used : 4 * d .frame .used ≤ d .frame .opening .log

@@ -46,7 +46,7 @@ abbrev pub Within : Desk → Type 0
 Within d =
     (OpeningIn (d .frame .opening)
     × ((d .frame .day .0 ≤ 400)
-    × (Each 0 (Between 1 64) (d .frame .groups)
+    × ((Each 0 (Between 1 64) (d .frame .groups .first) × Each 0 (Between 1 64) (d .frame .groups .second))
     × ((d .frame .count ≤ 512)
     × ((d .frame .count * d .frame .opening .quarters ≤ d .frame .opening .values)
     × (4 * d .frame .used ≤ d .frame .opening .log))))))

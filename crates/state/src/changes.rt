@@ -16,6 +16,8 @@ use crate::Tables;
 use crate::VersionRecord;
 use crate::effects::unchanged;
 use crate::fresh::open_frame;
+use crate::groups::sets_both;
+use crate::groups::with_group;
 use crate::statuses::submitted_status;
 use quantity::Day;
 use quantity::PointNo;
@@ -28,6 +30,7 @@ ghost use lib.ListN.{set};
 ghost use Rattle.quantity.specs.Limits.{versions, deltas, dayOk, pointOk};
 ghost use Rattle.state.specs.Change.{settledDesk};
 ghost use Rattle.state.specs.Desk.{isOpen, openDesk, deskWith, theDay, theGroups, theUsed, theClosed, theIssued, thePoints, theVersions, flagged};
+ghost use Rattle.state.specs.Groups.{setsBoth, withGroup};
 ghost use Rattle.state.specs.Point.{activePoint, withPoint, seriesOk};
 ghost use Rattle.state.specs.Valid.{validDesk};
 ghost use Rattle.state.specs.Version.{newVersion, restatus};
@@ -81,13 +84,15 @@ pub fn put_version(f: Frame, at: u64, v: VersionRecord, count: u64, used: u64, d
     Effect { tables, frame }
 }
 
-// A delta's group: area 0 is T.
+// A delta's group, up to day C in both runs and after it in run 2 only: area 0 is T.
 pub fn put_group(f: Frame, area: u64, group: u64, day: Day) -> Effect
     requires { ⌜ area < deltas ⌝ }
-    ensures { λ r. ⌜ ((d : Desk) → d .frame ≡ f → Fits d r × (changedBy d r ≡ deskWith (deskWith d (theGroups (set (d .frame .groups) area group))) (theDay (day .0)))) ⌝ }
+    ensures { λ r. ⌜ ((d : Desk) → d .frame ≡ f → Fits d r × (changedBy d r ≡ deskWith (deskWith d (theGroups (withGroup (setsBoth (d .frame .opening) (day .0)) area group (d .frame .groups)))) (theDay (day .0)))) ⌝ }
 {
+    let opening = f.opening;
+    let groups = f.groups;
     let mut frame = f;
-    frame.groups[area as usize] = group;
+    frame.groups = with_group(groups, sets_both(opening, day), area, group);
     frame.day = day;
     unchanged(frame)
 }

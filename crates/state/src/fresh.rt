@@ -1,4 +1,5 @@
 // The state made anew.
+use crate::DeltaGroups;
 use crate::Desk;
 use crate::Frame;
 use crate::Opening;
@@ -17,7 +18,7 @@ use quantity::limits::VERSIONS;
 ghost use mathlib.Core.Path.{_≡_};
 ghost use Rattle.state.specs.Desk.{openFrame, openDesk, freshDesk};
 
-// What stands beside the tables at an opening.
+// What stands beside the tables at an opening: both runs have the groups given.
 pub fn open_frame(opening: Opening, groups: [u64; DELTAS as usize]) -> Frame
     ensures { λ r. ⌜ r ≡ openFrame opening groups ⌝ }
 {
@@ -28,7 +29,10 @@ pub fn open_frame(opening: Opening, groups: [u64; DELTAS as usize]) -> Frame
     Frame {
         opening,
         day: Day(0),
-        groups,
+        groups: DeltaGroups {
+            first: groups,
+            second: groups,
+        },
         count: 0,
         used: 0,
         closed: none,

@@ -4,6 +4,7 @@
 pub mod changes;
 pub mod effects;
 pub mod fresh;
+pub mod groups;
 pub mod selections;
 pub mod settling;
 pub mod statuses;
@@ -81,12 +82,18 @@ pub struct Runs {
     pub second: bool,
 }
 
-// What stands beside the two tables: what the opening fixed, the day, the delta groups of T and of areas 1 to 16, how many versions are held,
-// how many rows of the log are used, the runs closed and the runs issued.
+// The delta groups of T and of areas 1 to 16, for each run.
+pub struct DeltaGroups {
+    pub first: [u64; DELTAS as usize],
+    pub second: [u64; DELTAS as usize],
+}
+
+// What stands beside the two tables: what the opening fixed, the day, the delta groups, how many versions are held, how many rows of the log
+// are used, the runs closed and the runs issued.
 pub struct Frame {
     pub opening: Opening,
     pub day: Day,
-    pub groups: [u64; DELTAS as usize],
+    pub groups: DeltaGroups,
     pub count: u64,
     pub used: u64,
     pub closed: Runs,

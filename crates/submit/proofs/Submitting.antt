@@ -38,7 +38,6 @@ use Rattle.checks.proofs.Lengths.{lengths}
 use Rattle.model.specs.Call.{Stores, submits}
 use Rattle.model.specs.Causes.{Rule, rules, firstOf, logFull, submitOk}
 use Rattle.model.specs.Log.{turnOf, due}
-use Rattle.model.specs.Series.{sidesOf}
 use Rattle.model.specs.Step.{versionBy, amendBy, amended, granting}
 use Rattle.model.specs.View.{viewOf}
 use Rattle.model.specs.declared.Answer.the-variants.{Accepted}
@@ -155,7 +154,7 @@ module _ (d : Desk) (p x day : ℕ) (series values book log : List ℕ) (t : Tur
         valued = n .valued;
         booked =
             n .booked
-            ∙ ap (λ (w : Turn). amendBy (d .frame .opening .quarters) (sidesOf (d .frame .groups) here) w values′ book) T
+            ∙ ap (λ (w : Turn). amendBy (d .frame .opening .quarters) (d .frame .groups) here w values′ book) T
             ∙ rw (known, n .valued);
         noted = n .noted ∙ rw D;
       }

@@ -22,7 +22,6 @@ use Rattle.state.specs.declared.VersionRecord.{VersionRecord}
 use Rattle.state.specs.declared.VersionRow.{VersionRow}
 use Rattle.checks.specs.declared.Survey.{Survey}
 use Rattle.model.specs.Log.{logged, usedAfter}
-use Rattle.model.specs.Series.{sidesOf}
 use Rattle.model.specs.Step.{versionBy, amendBy}
 use Rattle.model.specs.declared.Due.{Due}
 use Rattle.model.specs.declared.Turn.{Turn}
@@ -56,5 +55,5 @@ pub record Granted (f : Frame) (here : PointState) (series values book log : Lis
 pub record Delivered (f : Frame) (here : PointState) (v : VersionRecord) (day : ℕ) (t : Turn) (due : Due) (series values book log : List ℕ) (e : Effect) (values′ book′ log′ : List ℕ) : Type 0 where
   pub desk : (d : Desk) → Fits (withFrame d f) e × (changedBy (withFrame d f) e ≡ deskWith (deskWith (submittedDesk (withFrame d f) v) (theUsed (usedAfter due (f .used)))) (theDay day))
   pub valued : values′ ≡ splice values (rowsUsed f * f .opening .quarters) (f .opening .quarters) (map word (map signed series))
-  pub booked : book′ ≡ amendBy (f .opening .quarters) (sidesOf (f .groups) here) t values′ book
+  pub booked : book′ ≡ amendBy (f .opening .quarters) (f .groups) here t values′ book
   pub noted : log′ ≡ logged (f .used) due log

@@ -22,7 +22,7 @@ use Rattle.checks.specs.declared.PointPicks.{PointPicks}
 use Rattle.summary.specs.Table.{rowsTo, pointPlaces, pointRow, versionPlaces, versionRow, refusals, firstRefused}
 
 -- one row more behind those that stand
-over-more : (new row old : List ℕ) (at k : ℕ) → length new ≡ at → length row ≡ k → splice (over new old) at k row ≡ over (new ++ row) old
+pub over-more : (new row old : List ℕ) (at k : ℕ) → length new ≡ at → length row ≡ k → splice (over new old) at k row ≡ over (new ++ row) old
 unfolding splice
 over-more new row old at k e f =
     rw (take-at new (drop (length new) old) at e, drop-at new (drop (length new) old) at e, drop-drop k (length new) old, length-append new row, f)

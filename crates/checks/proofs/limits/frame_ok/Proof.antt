@@ -10,8 +10,8 @@ opening-ok-requires c κs = search needs
 day-ok-requires : tie.Need-day-ok-requires
 day-ok-requires c κs = search needs
 
-groups-ok-requires : tie.Need-groups-ok-requires
-groups-ok-requires c κs = search needs
+deltas-ok-requires : tie.Need-deltas-ok-requires
+deltas-ok-requires c κs = search needs
 
 rows-in-requires : tie.Need-rows-in-requires
 rows-in-requires c κs = search needs
@@ -21,9 +21,9 @@ unfolding frameOk
 returns c =
     let n = c .before .before .before in
     let g = n .before .before in
-    rw (g .before .before .opening-ok .ensures, g .before .day-ok .ensures, g .groups-ok .ensures, n .rows-in .ensures)
+    rw (g .before .before .opening-ok .ensures, g .before .day-ok .ensures, g .deltas-ok .ensures, n .rows-in .ensures)
 
 pub frame-ok-spec : {M : Type 1} → statement M
 frame-ok-spec =
     tie.close
-    (tie.spec opening-ok-requires day-ok-requires groups-ok-requires rows-in-requires returns)
+    (tie.spec opening-ok-requires day-ok-requires deltas-ok-requires rows-in-requires returns)

@@ -1,0 +1,58 @@
+//! The group that each run books a delta to, for `desk run`, `desk deltas` and the page. Groups and sums are the library's; the day of a
+//! group is that of the accepted call that names it.
+
+use crate::calls::{Call, ASSIGN};
+use crate::library::{Replay, DELTAS, GROUPS};
+use crate::month::Ran;
+use crate::summary::grouped;
+
+/// The deltas: T's is 0, an area's its number.
+pub fn all() -> impl Iterator<Item = u64> {
+    0..DELTAS as u64
+}
+
+/// Whose delta it is.
+pub fn name(delta: u64) -> String {
+    if delta == 0 {
+        "T".to_string()
+    } else {
+        format!("area {delta}")
+    }
+}
+
+/// The row of the book that has a delta.
+pub fn row(delta: u64) -> u64 {
+    GROUPS + delta
+}
+
+/// Whether there is something to show: the delta is not 0 throughout, or the runs book it to different groups.
+pub fn is_shown(replay: &Replay, delta: u64) -> bool {
+    replay.has_delta(delta) || replay.is_moved(delta)
+}
+
+/// The day of the last accepted call that moves a delta.
+fn day_of(ran: &Ran, delta: u64) -> Option<u64> {
+    let mut calls = ran.month.calls.iter().zip(&ran.replay.answers);
+    let moves = |(call, answer): &(&Call, &u64)| {
+        **answer == 0 && call.kind == ASSIGN && call.field("area") == delta
+    };
+    calls.rfind(moves).map(|(call, _)| call.field("day"))
+}
+
+/// A line for each delta that run 2 books to another group than run 1: since which day, and the delta in run 2 over the month.
+pub fn moved(ran: &Ran) -> Vec<String> {
+    let replay = &ran.replay;
+    let line = |delta: u64| {
+        let [first, second] = [1, 2].map(|run| replay.delta_group(run, delta));
+        let day = day_of(ran, delta).map_or(String::new(), |day| format!("day {}: ", ran.day(day)));
+        format!(
+            "{day}{}, run 2: group {second} in the place of {first}, which run 1 keeps; {} Wh",
+            name(delta),
+            grouped(replay.sum(2, row(delta)))
+        )
+    };
+    all()
+        .filter(|delta| replay.is_moved(*delta))
+        .map(line)
+        .collect()
+}
