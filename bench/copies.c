@@ -10,7 +10,7 @@
 
 #include "emorizugu.h"
 
-enum { LARGE = 1024, STATE = 10254, QUARTERS = 2, VALUES = 1024, BOOK = EMORIZUGU_BOOK_ROWS * QUARTERS, LOG = 64, MOST = 64 };
+enum { LARGE = 1024, STATE = 10608, QUARTERS = 2, VALUES = 1024, BOOK = EMORIZUGU_BOOK_ROWS * QUARTERS, LOG = 64, MOST = 64 };
 enum { SCHEDULES = EMORIZUGU_GROUPS * QUARTERS };
 
 void *__real_memcpy(void *to, const void *from, size_t n);
