@@ -31,12 +31,13 @@ use Rattle.model.specs.declared.Answer.the-variants.{Accepted}
 use Rattle.model.specs.declared.Cause.the-variants.{AlreadyIssued}
 use Rattle.model.specs.declared.Ruling.{Ruling}
 use Rattle.model.specs.declared.Ruling.the-variants.{Fine, Refuse}
-use Rattle.model.proofs.Closed.{Opened, Plain, empty, opened, is-open, unclosed, unissued, on-end, follows, closed-own, same-flags}
+use Rattle.model.proofs.Closed.{unclosed, unissued, closed-own}
 use Rattle.model.proofs.Corollaries.{reached}
 use Rattle.model.proofs.Demands.{chained-front}
 use Rattle.model.proofs.Flags.{Run}
 use Rattle.model.proofs.Main.{agree}
 use Rattle.model.proofs.Newest.{last-reply, accepted-joins}
+use Rattle.model.proofs.Onward.{Opened, Plain, empty, opened, is-open, on-end, follows, same-flags}
 use Rattle.model.proofs.Rules.{passed, decides-first}
 
 -- ---- the acts and the deadlines

@@ -38,7 +38,8 @@ use Rattle.model.proofs.Corollaries.{reached}
 use Rattle.model.proofs.Lists.{all-snoc, all-then}
 use Rattle.model.proofs.Flags.{Run}
 use Rattle.model.proofs.Main.{agree}
-use Rattle.model.proofs.Closed.{Plain, empty, opened, unissued, issued-stays-after, always-kept, same-flags}
+use Rattle.model.proofs.Closed.{unissued}
+use Rattle.model.proofs.Onward.{Plain, empty, opened, issued-stays-after, always-kept, same-flags}
 
 -- every version that a run has of its own is of this status
 abbrev Every : (run status : ℕ) → List VersionRecord → Type 0

@@ -26,6 +26,7 @@ pub mod Main
 pub mod Moves
 pub mod Newest
 pub mod Notice
+pub mod Onward
 pub mod Points
 pub mod Queries
 pub mod Regrouped

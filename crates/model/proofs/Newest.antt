@@ -46,9 +46,9 @@ use Rattle.model.proofs.Demands.{chained-front}
 use Rattle.model.proofs.Invariant.{opening-open}
 use Rattle.model.proofs.Logs.{numbers-snoc}
 use Rattle.model.proofs.Main.{agree, one-step}
+use Rattle.model.proofs.Onward.{day-grows, before-clearing, Plain, empty, opened, always-kept, end-append}
 use Rattle.model.proofs.Rules.{not-refused, passed, past}
 use Rattle.model.proofs.Selections.{best-none, own-uncounted, own-unturned, Restated, noticed-restated, settled-restated, restated-length, restated-at}
-use Rattle.model.proofs.Closed.{day-grows, before-clearing, Plain, empty, opened, always-kept, end-append}
 use Rattle.model.proofs.TableDue.{check-held, notice-taken, notice-first, notice-second}
 use Rattle.model.proofs.TableLaw.{highest-below}
 

@@ -19,10 +19,10 @@ use Rattle.model.specs.Causes.{rules}
 use Rattle.model.specs.Laws.{Passed, besideGroups, groupless, SameTotals}
 use Rattle.model.specs.Plain.{Worked, worked, openingOf, dayOf, groupsOf, viewIn, figure, outside, plainEnd, workedOut, after}
 use Rattle.model.specs.Series.{figureOf, outsideOf}
-use Rattle.model.proofs.Closed.{day-grows, always-kept, same-flags}
 use Rattle.model.proofs.Corollaries.{reached}
 use Rattle.model.proofs.Figures.{groups-sum}
 use Rattle.model.proofs.Main.{agree}
+use Rattle.model.proofs.Onward.{day-grows, always-kept, same-flags}
 
 -- ---- "each run under its own delta groups"
 

@@ -21,7 +21,6 @@ use Rattle.model.specs.Plain.{openingOf, dayOf, pointsOf, groupsOf, vers
 use Rattle.model.specs.Series.{figureOf}
 use Rattle.model.specs.declared.Ruling.{Ruling}
 use Rattle.model.specs.declared.Ruling.the-variants.{Fine, Refuse}
-use Rattle.model.proofs.Closed.{Late, Plain, empty, opened, Onward, onward, always-kept, end-append, early-day, selects-on, start, follows, same-flags}
 use Rattle.model.proofs.Corollaries.{reached}
 use Rattle.model.proofs.Deliveries.{all-energised}
 use Rattle.model.proofs.Demands.{chained-front}
@@ -30,6 +29,7 @@ use Rattle.model.proofs.Flags.{Run}
 use Rattle.model.proofs.Invariant.{opening-open, tenanted}
 use Rattle.model.proofs.Lists.{all-snoc}
 use Rattle.model.proofs.Main.{agree}
+use Rattle.model.proofs.Onward.{Late, Plain, empty, opened, Onward, onward, always-kept, end-append, early-day, selects-on, start, follows, same-flags}
 use Rattle.model.proofs.Points.{selected-none, free-empty, homes-freed}
 use Rattle.model.proofs.Rules.{passed}
 use Rattle.model.proofs.Selections.{noticed-restated, settled-restated, restated-all}
