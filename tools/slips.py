@@ -8,8 +8,11 @@
     python3 tools/slips.py CRATE --laws            the laws alone: the crate's functions and their proofs are left out of the copy
     python3 tools/slips.py state --laws --judge model    by the laws of a crate above it too
     python3 tools/slips.py CRATE --kinds           the kinds of slips, and how many of each the crate has room for
+    python3 tools/slips.py model --pairs           the same slip in each definition that both desks have of one thing (see TWINS and PHRASES)
+    python3 tools/slips.py model --pairs --by Afterwards --by Takes    tells those that a law of these files of proofs/ refuses from the others
 
-Each slip is one that a person could make: see the functions of the section "kinds". The same sources, seed and options give the same slips. It
+Each slip is one that a person could make: see the functions of the section "kinds". Definition and code that slip together are judged by the laws alone:
+with --laws the code is left out, so that it cannot disagree. The same sources, seed and options give the same slips. It
 works on a copy of the crate and of those beneath it, in a temporary folder that is removed at the end; the repository stays as it is. What stands in
 target/ is copied too, so that what lies beneath is not proved again where it is proved. A slip is tried by `rt dev` over what has not changed since; one
 that is still proved is tried once more from nothing.
@@ -320,11 +323,10 @@ class Sources:
 # ---- kinds: each gives its slips, as replacements of parts of the text
 
 @dataclass
-class Slip:
+class Part:
+    """Replacements in one file: from an offset to another, by a text."""
     file: File
-    kind: str
     edits: list
-    said: str = ''
 
     @property
     def line(self):
@@ -335,6 +337,13 @@ class Slip:
         for start, end, new in sorted(self.edits, reverse=True):
             text = text[:start] + new + text[end:]
         return text
+
+
+@dataclass
+class Slip:
+    """One slip: a part for each file that it changes."""
+    kind: str
+    parts: list
 
 
 class Kinds:
@@ -665,11 +674,117 @@ def slips_of(sources, only, without):
         of, seen = Kinds(sources, f), set()
         for kind in found:
             for edits in getattr(of, 'of_' + kind)():
-                slip = Slip(f, kind, edits or [])
-                if edits and (after := slip.after()) not in seen:
+                part = Part(f, edits or [])
+                if edits and (after := part.after()) not in seen:
                     seen.add(after)
-                    found[kind].append(slip)
+                    found[kind].append(Slip(kind, [part]))
     return found
+
+
+# ---- pairs: the same slip in what both desks have of one thing
+
+# the running desk's and the plain desk's table of what a call makes; their clauses go together by the call
+TWINS = [('Step', 'granting'), ('Plain', 'granted'), ('Plain', 'setsBy'), ('Plain', 'setIn')]
+
+# the call behind a setting of the plain desk
+SETTINGS = {'opened': 'opens', 'placed': 'activates', 'allotted': 'assigns', 'delivered': 'submits', 'judged': 'notices', 'closedIn': 'closes', 'issuedIn': 'issues', 'lodged': 'lodges'}
+
+# what the two desks say in words of their own: what the slip is, and in each file the text and what stands in its place
+PHRASES = [
+    ('run 2 books what run 1 selects', [
+        ('Series', 'figureOf', 'selected run p vs', 'selected 1 p vs'), ('Series', 'outsideOf', 'selected run p vs', 'selected 1 p vs'),
+        ('Step', 'amendBy', '(orElse (t .old2) (t .old1)) (orElse (t .new2) (t .new1))', '(t .old1) (t .new1)')]),
+    ('run 2 has nothing without its own', [
+        ('Series', 'figureOf', 'selected run p vs', 'own run p vs'), ('Series', 'outsideOf', 'selected run p vs', 'own run p vs'),
+        ('Step', 'amendBy', '(orElse (t .old2) (t .old1)) (orElse (t .new2) (t .new1))', '(t .old2) (t .new2)')]),
+    ('run 1 books what run 2 selects', [
+        ('Series', 'figureOf', 'selected run p vs', 'selected 2 p vs'), ('Series', 'outsideOf', 'selected run p vs', 'selected 2 p vs'),
+        ('Step', 'amendBy', '(t .old1) (t .new1) values book', '(orElse (t .old2) (t .old1)) (orElse (t .new2) (t .new1)) values book')]),
+    ('run 2 is booked under the delta groups of run 1', [
+        ('Series', 'figureOf', 'groupsIn run gs', 'groupsIn 1 gs'), ('Step', 'amendBy', 'sidesOf (groupsIn 2 gs) here', 'sidesOf (groupsIn 1 gs) here')]),
+    ('log rows have day 0', [
+        ('Plain', 'withVersions', 'due (w .versions) ws p (w .day)', 'due (w .versions) ws p 0'), ('Step', 'followed', 'due (versionsIn d) ws p day', 'due (versionsIn d) ws p 0')]),
+    ('a close frees point 1', [
+        ('Plain', 'setsBy', 'closedIn r ∷ []', 'closedIn r ∷ placed 1 freePoint ∷ []'),
+        ('Step', 'granting', 'accept (deskWith (deskWith d (theClosed', 'accept (deskWith (deskWith (deskWith d (thePoints (withPoint (d .points) 1 freePoint))) (theClosed')]),
+    ('a close is not kept', [
+        ('Plain', 'setsBy', 'closedIn r ∷ []', '[]'), ('Step', 'granting', '(deskWith d (theClosed (flagged r (d .frame .closed))))', 'd')]),
+    ('an issue is not kept', [
+        ('Plain', 'setIn', '(w .closed) (flagged r (w .issued))', '(w .closed) (w .issued)'), ('Step', 'granting', '(deskWith (settledDesk d r) (theIssued (flagged r (d .frame .issued))))', '(settledDesk d r)')]),
+    ('an issue closes its run too', [
+        ('Plain', 'setIn', '(w .closed) (flagged r (w .issued))', '(flagged r (w .closed)) (flagged r (w .issued))'),
+        ('Step', 'granting', '(theIssued (flagged r (d .frame .issued)))) (theDay day)', '(theIssued (flagged r (d .frame .issued)))) (theClosed (flagged r (d .frame .closed)))')]),
+    ('a deactivated point stays', [
+        ('Plain', 'setsBy', 'placed p freePoint ∷ []', '[]'), ('Step', 'granting', '(deskWith d (thePoints (withPoint (d .points) p freePoint)))', 'd')]),
+    ('a lodging is not kept', [
+        ('Plain', 'setsBy', 'lodged g es ∷ []', '[]'),
+        ('Step', 'granting', '(withSchedules s (splice (s .schedules) (scheduleStart (d .frame .opening .quarters) g) (d .frame .opening .quarters) (map word es)))', 's')]),
+    ('an assignment is not kept', [
+        ('Plain', 'setsBy', 'allotted a g ∷ []', '[]'),
+        ('Step', 'granting', '(deskWith (deskWith d (theGroups (withGroup both a g (d .frame .groups)))) (theDay day))', '(deskWith d (theDay day))'),
+        ('Step', 'granting', '(withBook s (moved both (d .frame .opening .quarters) a g (d .frame .groups) (s .book)))', 's')]),
+    ('surplus and shortfall exchanged', [
+        ('Plain', 'granted', 'surplus = monthly h (surplusAt h r g); shortfall = monthly h (shortfallAt h r g)', 'surplus = monthly h (shortfallAt h r g); shortfall = monthly h (surplusAt h r g)'),
+        ('Step', 'granting', 'surplus = monthSurplus', 'surplus = monthShortfall'), ('Step', 'granting', 'shortfall = monthShortfall', 'shortfall = monthSurplus')]),
+]
+
+
+def throughout(of, c):
+    """A number of a clause for another one, or 0, 1 or 2 for it, wherever it stands on the right side."""
+    known = of.parameters(c)
+    for v, t in known.items():
+        places = [w for w in c.right if w.text == v]
+        if t != 'ℕ' or not places:
+            continue
+        for new in [n for n, s in known.items() if s == t and n != v] + ['0', '1', '2']:
+            yield [(w.start, w.end, new) for w in places]
+
+
+def alike(part, c, call):
+    """What a slip is, whatever the clause calls its variables: the call, and what was exchanged for what. The day is `day` or `d`."""
+    plain = lambda text: ' '.join({'day': 'd'}.get(w.text, w.text) for w in words_in(text, 0, len(text)))
+    return call, frozenset((plain(part.file.text[s:e]), plain(new)) for s, e, new in part.edits if c.start <= s < c.end)
+
+
+def twin_slips(sources):
+    """The slips in the clauses of each of TWINS, by what they are."""
+    found = {}
+    for module, name in TWINS:
+        f = sources.files[sources.crate, module]
+        of = Kinds(sources, f)
+        for c in f.clauses:
+            makers = [w.text for w in c.left if w.text in of.makers]
+            if c.name != name or not makers:
+                continue
+            call = SETTINGS.get(makers[0], makers[0])
+            single = [(k, e) for k in kinds() for e in getattr(of, 'of_' + k)() if e and all(c.start <= s < c.end for s, _, _ in e)]
+            for kind, edits in single + [('throughout', e) for e in throughout(of, c)]:
+                part = Part(f, edits)
+                found.setdefault((kind, *alike(part, c, call)), {}).setdefault((module, name), []).append(part)
+    return found
+
+
+def pairs_of(sources):
+    """The same slip in the running desk's definition and in the plain desk's, by kind; those of PHRASES have a kind of their own."""
+    found = {k: [] for k in [*kinds(), 'throughout', 'phrase']}
+    for (kind, call, _), places in twin_slips(sources).items():
+        running = [p for (module, _), parts in places.items() for p in parts if module == 'Step']
+        plain = [p for (module, _), parts in places.items() for p in parts if module != 'Step']
+        found[kind] += [Slip(kind, [a, b]) for a, b in zip(running, plain)]
+    for said, texts in PHRASES:
+        parts = {}
+        for module, name, old, new in texts:
+            f = sources.files[sources.crate, module]
+            at = [f.text.index(old, c.start) for c in f.clauses if c.name == name and old in f.text[c.start:c.end]]
+            if not at:
+                refuse(f'{module}.antt: {name} has no "{old}" for the slip "{said}"')
+            parts.setdefault(module, Part(f, [])).edits.append((at[0], at[0] + len(old), new))
+        found['phrase'].append(Slip(said, list(parts.values())))
+    return found
+
+
+def name_of(kind):
+    return {**kinds(), 'throughout': 'a number for another one, throughout'}.get(kind, kind)
 
 
 def chosen(found, count, seed):
@@ -688,14 +803,14 @@ def cut(text, most=150):
     return text if len(text) <= most else text[:most] + ' ..'
 
 
-def changes(slip):
-    """The lines that the slip changes, before and after."""
-    old, new = slip.file.text.split('\n'), slip.after().split('\n')
+def changes(part):
+    """The lines that the part of a slip changes, before and after."""
+    old, new = part.file.text.split('\n'), part.after().split('\n')
     if len(old) == len(new):
         pairs = [(a, b) for a, b in zip(old, new) if a != b and not a.startswith('use ')]
     else:
-        start, end = min(e[0] for e in slip.edits), max(e[1] for e in slip.edits)
-        pairs = [(slip.file.text[start:end], ' / '.join(e[2] for e in slip.edits) or 'nothing')]
+        start, end = min(e[0] for e in part.edits), max(e[1] for e in part.edits)
+        pairs = [(part.file.text[start:end], ' / '.join(e[2] for e in part.edits) or 'nothing')]
     return [(cut(a), cut(b)) for a, b in pairs]
 
 
@@ -784,33 +899,36 @@ class Place:
             shutil.copytree(self.folder / 'target' / 'kept', self.folder / 'target' / 'inc')
 
     def try_slip(self, slip, most):
-        path = self.folder / 'crates' / self.crate / 'specs' / slip.file.path.name
-        path.write_text(slip.after())
+        specs = self.folder / 'crates' / self.crate / 'specs'
+        for part in slip.parts:
+            (specs / part.file.path.name).write_text(part.after())
         self.begin(True)
         status, said = self.check(most)
         if status == 0:
             self.begin(False)
             status, said = self.check(most)
-        path.write_text(slip.file.text)
+        for part in slip.parts:
+            (specs / part.file.path.name).write_text(part.file.text)
         return self.verdict(status, said)
 
     def verdict(self, status, said):
-        """What became of a slip: a word, and the place."""
+        """What became of a slip: a word, the place, and the names of all that is refused for itself."""
         if status is None:
-            return 'no verdict', 'longer than the time allowed'
+            return 'no verdict', 'longer than the time allowed', []
         if status == 0 and 'logic=proved' in said:
-            return 'PROVED', ''
+            return 'PROVED', '', []
         errors = [(Path(m.group(1)), int(m.group(2))) for m in re.finditer(r'^(\S+?):(\d+):\d+: error(.*)$', said, re.M) if 'was not admitted' not in m.group(3)]
         errors = errors or [(Path(m.group(1)), int(m.group(2))) for m in re.finditer(r'^(?:note: )?(/\S+?):(\d+):\d+:', said, re.M)]
         if status != 1 or not errors:
-            return 'no verdict', cut(said.strip().split('\n')[-1]) if said.strip() else f'exit {status}'
+            return 'no verdict', cut(said.strip().split('\n')[-1]) if said.strip() else f'exit {status}', []
         path, line = errors[0]
         inside = self.inside(path)
         if 'specs' in inside.parts:
-            return 'ill-typed', f'{inside}:{line}'
-        names = list(dict.fromkeys(f'{self.inside(p).stem}.{self.name_at(p, n)}' for p, n in errors))[1:]
-        more = f'; also {", ".join(names[:6])}' + (f' and {len(names) - 6} more' if len(names) > 6 else '') if names else ''
-        return 'refused', f'{inside}:{line} in {self.name_at(path, line)}{more}'
+            return 'ill-typed', f'{inside}:{line}', []
+        names = list(dict.fromkeys(f'{self.inside(p).stem}.{self.name_at(p, n)}' for p, n in errors))
+        others = names[1:]
+        more = f'; also {", ".join(others[:6])}' + (f' and {len(others) - 6} more' if len(others) > 6 else '') if others else ''
+        return 'refused', f'{inside}:{line} in {self.name_at(path, line)}{more}', names
 
     def inside(self, path):
         """A path as the summary has it: below its crate, and with the crate's name where several judge."""
@@ -862,7 +980,7 @@ def try_all(picked, crate, judge, jobs, laws, most):
             except Empty:
                 pass
             except Exception as fault:
-                ended.put((None, None, 'fault', repr(fault), 0))
+                ended.put((None, None, 'fault', repr(fault), [], 0))
 
         for p in places:
             threading.Thread(target=work, args=(p,), daemon=True).start()
@@ -878,13 +996,14 @@ def try_all(picked, crate, judge, jobs, laws, most):
 
 
 def show_slip(number, slip):
-    print(f'{number} specs/{slip.file.path.name}:{slip.line}: {kinds()[slip.kind]}')
-    for old, new in changes(slip):
-        print(f'    - {old}\n    + {new}')
+    print(f'{number} {", ".join(f"specs/{p.file.path.name}:{p.line}" for p in slip.parts)}: {name_of(slip.kind)}')
+    for part in slip.parts:
+        for old, new in changes(part):
+            print(f'    - {old}\n    + {new}')
 
 
 def main():
-    parser = argparse.ArgumentParser(usage='python3 tools/slips.py CRATE [--count N] [--seed S] [--jobs J] [--only FILE] [--without FILE] [--laws] [--judge CRATE] [--seconds S] [--list] [--kinds]')
+    parser = argparse.ArgumentParser(usage='python3 tools/slips.py CRATE [--count N] [--seed S] [--jobs J] [--only FILE] [--without FILE] [--laws] [--pairs] [--judge CRATE] [--by FILE] [--seconds S] [--list] [--kinds]')
     parser.add_argument('crate')
     parser.add_argument('--count', type=int, default=20)
     parser.add_argument('--seed', type=int, default=1)
@@ -892,7 +1011,9 @@ def main():
     parser.add_argument('--only', action='append', default=[])
     parser.add_argument('--without', action='append', default=[])
     parser.add_argument('--laws', action='store_true')
+    parser.add_argument('--pairs', action='store_true')
     parser.add_argument('--judge')
+    parser.add_argument('--by', action='append', default=[])
     parser.add_argument('--list', action='store_true')
     parser.add_argument('--kinds', action='store_true')
     parser.add_argument('--seconds', type=float, default=600, help='how long a check may take')
@@ -904,10 +1025,12 @@ def main():
     for n in stem(given.only + given.without):
         if (given.crate, n) not in sources.files:
             refuse(f'{given.crate} has no specs/{n}.antt')
-    found = slips_of(sources, stem(given.only), stem(given.without))
+    if given.pairs and any((given.crate, m) not in sources.files for m, _ in TWINS):
+        refuse(f'{given.crate} does not have both desks')
+    found = pairs_of(sources) if given.pairs else slips_of(sources, stem(given.only), stem(given.without))
     if given.kinds:
         for k, v in found.items():
-            print(f'{len(v):5} {k}: {kinds()[k]}')
+            print(f'{len(v):5} {k}: {name_of(k)}')
         return
     picked = chosen(found, given.count, given.seed)
     print(f'{given.crate}: {len(picked)} of {sum(map(len, found.values()))} slips, seed {given.seed}', flush=True)
@@ -915,21 +1038,27 @@ def main():
         for k, slip in enumerate(picked):
             show_slip(k + 1, slip)
         return
-    words, at, proved = Counter(), Counter(), []
-    for done, (k, slip, word, place, took) in enumerate(try_all(picked, given.crate, given.judge or given.crate, given.jobs, given.laws, given.seconds)):
+    words, at, proved, apart = Counter(), Counter(), [], []
+    for done, (k, slip, word, place, names, took) in enumerate(try_all(picked, given.crate, given.judge or given.crate, given.jobs, given.laws, given.seconds)):
         show_slip(k + 1, slip)
         print(f'    {word}{" at " if place and word != "no verdict" else ": " if place else ""}{place} ({took:.0f} s; {done + 1} of {len(picked)})', flush=True)
         words[word] += 1
         if word == 'refused':
             at[re.sub(r':\d+|;.*', '', place)] += 1
+        laws = [n for n in names if n.split('.')[0] in stem(given.by)]
+        if laws:
+            print(f'    by {", ".join(laws)}', flush=True)
+        elif given.by and word == 'refused':
+            apart.append((k + 1, slip))
         if word == 'PROVED':
             proved.append((k + 1, slip))
     print(f'\n{given.crate}, seed {given.seed}: ' + ', '.join(f'{n} {w}' for w, n in sorted(words.items())) + f', of {len(picked)}')
     for place, n in at.most_common():
         print(f'{n:5} refused at {place}')
-    if proved:
-        print('\nstill proved:')
-        for k, slip in proved:
+    for said, slips in (('refused, and by no law of those files', apart), ('still proved', proved)):
+        if slips:
+            print(f'\n{said}:')
+        for k, slip in slips:
             show_slip(k, slip)
 
 
