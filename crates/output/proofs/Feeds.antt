@@ -178,11 +178,15 @@ bare-next h (issues r d) p e = λ z. opened h (passed (rules (viewIn h) (toldAs 
 bare-next h (lodges g d es) p e = p
 bare-next h (reports r g) p e = p
 
+-- a desk that is not open holds no version
+pub none-held : (cs : List Call) → openingOf (plainEnd [] (tells lent [] cs)) .quarters ≡ 0 → versionsOf (plainEnd [] (tells lent [] cs)) ≡ []
+unfolding workedOut
+none-held cs = kept Bare lent bare-next [] cs (λ _. refl)
+
 none-selected : selectionsText [] ≡ []
 unfolding best walk eachTo selectionText selectionsText
 none-selected = refl
 
 -- "for points with a selection": there is none on a desk that is not open
 pub not-open-silent : (cs : List Call) → openingOf (plainEnd [] (tells lent [] cs)) .quarters ≡ 0 → selectionsText (versionsOf (plainEnd [] (tells lent [] cs))) ≡ []
-unfolding workedOut
-not-open-silent cs z = ap selectionsText (kept Bare lent bare-next [] cs (λ _. refl) z) ∙ none-selected
+not-open-silent cs z = ap selectionsText (none-held cs z) ∙ none-selected

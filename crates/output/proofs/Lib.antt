@@ -2,7 +2,9 @@ pub mod Answers
 pub mod Example
 pub mod Feeds
 pub mod Fills
+pub mod Lines
 pub mod Main
 pub mod Outside
+pub mod Printed
 pub mod Prints
 pub mod Totals

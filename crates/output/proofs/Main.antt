@@ -73,7 +73,7 @@ module _ (h : List Told) (s after : Stores) (L : Leaving h s after) where
 -- ---- answers
 
 -- as many answers as calls
-length-answers : (n : Lengths) (h : List Told) (cs : List Call) → length (numbersOf (plainReplies h (tells n h cs))) ≡ length cs
+pub length-answers : (n : Lengths) (h : List Told) (cs : List Call) → length (numbersOf (plainReplies h (tells n h cs))) ≡ length cs
 unfolding plainReplies tells
 length-answers n h [] = refl
 length-answers n h (c ∷ cs) = ap suc (length-answers n (plainNext h (toldAs n h c)) cs)

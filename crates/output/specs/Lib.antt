@@ -1,5 +1,6 @@
 pub mod Example
 pub mod Figures
 pub mod Fill
+pub mod Laws
 pub mod Output
 pub mod Parts
