@@ -818,7 +818,7 @@ def changes(part):
 
 def without_functions(text):
     """A source without its functions, and without the names that only they use."""
-    text = re.sub(r'(?:^(?://|#\[).*\n)*^(?:pub )?(?:extern "C" )?fn .*?^}\n', '', text, flags=re.M | re.S)
+    text = re.sub(r'(?:^(?://|#\[)[^\n]*\n)*^(?:pub )?(?:extern "C" )?fn .*?^}\n', '', text, flags=re.M | re.S)
     kept = []
     for l in text.split('\n'):
         used = re.match(r'use ([\w:]+?)(?: as (\w+))?;', l)
