@@ -6,10 +6,11 @@ use mathlib.Core.Logic.{_⊎_, inl, inr, ⊎-elim}
 use mathlib.Core.List.{List, [], _∷_, _++_, map}
 use native.Mathlib.Decide.{decLe}
 use native.Mathlib.Omega.{arith}
-use borrow.Author.Tests.{eqb-true, eq-eqb}
-use lib.Dec.{eqb}
+use borrow.Author.Tests.{eqb-true, eq-eqb, le-leb, lt-leb}
+use lib.Dec.{eqb, leb}
 use lib.IntN.{ℤ, pos, negsuc, natAbs}
-use lib.ListN.{length, getD, length-map}
+use lib.ListN.{length, getD, take, drop, length-map}
+use lib.Seq.{take-append-seam, drop-at}
 use Rattle.quantity.specs.Meaning.{Between}
 use Rattle.quantity.specs.Sum.{sumTo}
 use Rattle.quantity.proofs.Tests.{by-test, within-low}
@@ -33,12 +34,15 @@ use Rattle.message.proofs.Theorems.{answers}
 use Rattle.model.specs.Call.{Told}
 use Rattle.model.specs.Plain.{openingOf, versionsOf, figure, plainReplies}
 use Rattle.replay.specs.Given.{given, givenIn}
-use Rattle.replay.specs.Replay.{numbersOf}
+use Rattle.replay.specs.Replay.{numbersOf, over}
 use Rattle.text.specs.Laws.{Line, answer, refusal, group, total, chosen}
 use Rattle.text.specs.Line.{answerLine, refusalLine, groupLine}
 use Rattle.text.specs.Text.{eachTo}
 use Rattle.text.proofs.Lines.{answer-shows, refusal-shows, group-shows, total-shows, selection-shows}
-use Rattle.output.specs.Laws.{placeOf, Earlier, Printed, fileOf, callsOf, toldOf, acceptedOf, refusedBy, Due}
+use Rattle.output.specs.Fill.{most, Fills}
+use Rattle.output.specs.Laws.{placeOf, Earlier, Printed, fileOf, callsOf, toldOf, acceptedOf, refusedBy, Due, Buffered}
+use Rattle.output.specs.declared.Filled.{Filled}
+use Rattle.output.specs.declared.Filled.the-variants.{Length, TooSmall}
 use Rattle.output.specs.Output.{lent, answersText, groupText, quarterText, monthText, figuresText, selectionText, selectionsText, endText, textOf, outputOf}
 use Rattle.output.proofs.Feeds.{none-held}
 use Rattle.output.proofs.Lines.{both, no-line, one-line, Begins, before, each-line}
@@ -270,3 +274,17 @@ module _ (input : List ℕ) where
           → Printed (Due input) (answersText replies ++ endText w (length (fileOf input) - length (callsIn 2980 (fileOf input) .left)) list)
       by whole e = whole-printed e
       by (stopped c) e = stopped-printed c e
+
+-- so a buffer that was filled has them
+pub fills-printed : (input before after : List ℕ) (r : Filled) → Fills input before after r → Buffered input before after r
+fills-printed input before after r F = record { enough = enough; small = small }
+  where
+    enough : 330781 ≤ length before → (n : ℕ) × (r ≡ Length n) × Printed (Due input) (take n after) × (drop n after ≡ drop n before)
+    enough h =
+        let t : leb most (length before) ≡ true = le-leb most (length before) h in
+        let o = outputOf input in
+        let all : after ≡ over o before = rw t at (F .buffer) in
+        (length o, rw t at (F .answer), rw (all, take-append-seam o (drop (length o) before)) (output-printed input), rw (all, drop-at o (drop (length o) before) (length o) refl))
+
+    small : length before < 330781 → (r ≡ TooSmall) × (after ≡ before)
+    small h = let t : leb most (length before) ≡ false = lt-leb most (length before) h in (rw t at (F .answer), rw t at (F .buffer))

@@ -4,7 +4,7 @@ use Prim.Native.Nat.{ℕ, _-_, _≤_, _<_}
 use mathlib.Core.Path.{_≡_}
 use mathlib.Core.List.{List, [], _∷_, _++_, map, List·Memᴰ}
 use lib.IntN.{pos}
-use lib.ListN.{length, getD, take}
+use lib.ListN.{length, getD, take, drop}
 use Rattle.quantity.specs.Meaning.{Between}
 use Rattle.quantity.specs.Sum.{sumTo}
 use Rattle.state.specs.Selection.{selected}
@@ -18,6 +18,8 @@ use Rattle.model.specs.Plain.{openingOf, versionsOf, figure, plainReplies, plai
 use Rattle.replay.specs.Feeding.{tells}
 use Rattle.replay.specs.Given.{given, givenIn}
 use Rattle.replay.specs.Replay.{numbersOf}
+use Rattle.output.specs.declared.Filled.{Filled}
+use Rattle.output.specs.declared.Filled.the-variants.{Length, TooSmall}
 use Rattle.text.specs.Laws.{Line, answer, refusal, group, total, chosen, Shows}
 
 -- ---- lists of lines
@@ -103,3 +105,8 @@ Due input (chosen r p x s) =
     × Between 1 256 p
     × (1 ≤ openingOf (acceptedOf input) .quarters)
     × ((v : VersionRow) × (selected r p (versionsOf (acceptedOf input)) ≡ Selected v) × (v .version .0 ≡ x) × (statusNumber (v .status) ≡ s))
+
+-- the lines that are due stand in a buffer from its start on, and all behind them is as it was; one of fewer than 330,781 bytes is as it was
+pub record Buffered (input before after : List ℕ) (r : Filled) : Type 0 where
+  pub enough : 330781 ≤ length before → (n : ℕ) × (r ≡ Length n) × Printed (Due input) (take n after) × (drop n after ≡ drop n before)
+  pub small : length before < 330781 → (r ≡ TooSmall) × (after ≡ before)
