@@ -111,9 +111,9 @@ pub const COMMANDS: [(&str, Command, &[&str]); 14] = [
         Command::Report,
         &["--csv", "--json", "--run", "--group", "--all", "--month"],
     ),
-    ("page", Command::Page, &["--schedules", "-o", "--month"]),
-    ("pack", Command::Pack, &["-o", "--month"]),
-    ("print", Command::Print, &["-o", "--month"]),
+    ("page", Command::Page, &["--schedules", "--month", "-o"]),
+    ("pack", Command::Pack, &["--month", "-o"]),
+    ("print", Command::Print, &["--month", "-o"]),
     ("day", Command::Day, &["--csv", "--json"]),
     ("date", Command::Date, &["--csv", "--json"]),
     (
@@ -128,7 +128,7 @@ pub const COMMANDS: [(&str, Command, &[&str]); 14] = [
             "--to",
         ],
     ),
-    ("causes", Command::Causes, &["--json", "--csv"]),
+    ("causes", Command::Causes, &["--csv", "--json"]),
 ];
 
 fn wrong(line: String) -> Failure {
