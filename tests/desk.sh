@@ -1949,7 +1949,6 @@ help() {
     holds 'man page: every line of the help' man_page
     ! command -v man >/dev/null 2>&1 || has 'man page, shown' 0 'desk figures FILE' man -l "$work/desk.1"
     ln -sf "$PWD/desk" "$work/link"
-    without_toolchain
     has 'a link to desk' 0 '^13 calls, none refused' "$work/link" run examples/month.calls
 }
 
@@ -1962,26 +1961,6 @@ man_page() {
             [ -z "$line" ] || grep -qF -- "${line%.}" "$work/manual" || { echo "$command: $line" && return 1; }
         done || return 1
     done
-}
-
-# A copy where there is no toolchain: without a program, and with one that is older than its sources.
-without_toolchain() {
-    local copy=$work/copy tool
-    rm -rf "$copy"
-    mkdir -p "$copy/bin" "$copy/crates" "$copy/command" "$copy/docs" "$copy/tools" "$copy/target/desk/release"
-    cp -R desk crates.txt toolchain.txt "$copy"
-    cp docs/CAUSES.md "$copy/docs"
-    cp tools/build.sh "$copy/tools"
-    for tool in bash cat dirname find mkdir readlink; do ln -s "$(command -v "$tool")" "$copy/bin/$tool"; done
-    expect 'no toolchain' 2 env PATH="$copy/bin" "$copy/desk" --version <<END
-! desk: missing: rt (the Rattle toolchain: compiler and prover). Install the Rattle kit and put its bin folder on the PATH.
-END
-    cp target/desk/release/desk "$copy/target/desk/release"
-    touch -d '2001-01-01' "$copy/target/desk/release/desk"
-    expect 'no toolchain, and a program that is old' 0 env PATH="$copy/bin" "$copy/desk" --version <<END
-$(./desk --version)
-! desk: runs as it was built: its sources are newer, and there is no toolchain on the PATH
-END
 }
 
 # ---- causes

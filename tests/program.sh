@@ -501,11 +501,27 @@ END
     expect 'run: a folder' 2 ./run examples <<END
 ! run: examples: is a folder
 END
+    expect 'run: a file without a name' 2 ./run '' <<END
+! run: : no such file
+END
+    expect 'desk run: a file without a name' 2 ./desk run '' <<END
+! desk: : no such file
+END
+    expect 'run: a wrong option' 2 ./run --csv <<END
+! run: there is no option --csv
+! run: \`./run --help\` shows how it is used
+END
+    expect 'run: version' 0 ./run --version <<END
+emorizugu, library $(sed -n 's/^#define EMORIZUGU_VERSION //p' include/emorizugu.h)
+END
     ./run --help >"$work/help"
     sed 's/^/! /' "$work/help" >"$work/usage"
     expect 'run: two arguments' 2 ./run examples/example.msg examples/month.msg <"$work/usage"
     if grep -q '65536' "$work/help"; then pass 'run: help'; else fail 'run: help'; fi
     expect 'run: output that cannot be written' 1 sh -c './run >/dev/full' <<END
+! emorizugu: the output cannot be written
+END
+    expect 'run: output that may not grow' 1 sh -c "ulimit -f 8 && ./run '$work/full.msg' >'$work/grown'" <<END
 ! emorizugu: the output cannot be written
 END
     expect 'run: standard input closed' 2 sh -c './run - <&-' <<END
@@ -519,6 +535,9 @@ END
 1 0
 2 0
 F 33 29
+END
+    expect 'run: standard input that cannot be read' 2 sh -c "./run - 0>'$work/written'" <<END
+! run: standard input cannot be read: Bad file descriptor
 END
     expect 'run: a folder on standard input' 2 sh -c './run - <examples' <<END
 ! run: standard input: is a folder
@@ -541,7 +560,6 @@ END
 2 0
 F 33 29
 END
-    without_toolchain
 }
 
 # Standard input, or a named pipe, that cannot be kept whole: no folder for it, a file that may not grow, a disk without space. Nothing is run, and nothing
@@ -570,40 +588,6 @@ END
 1 0
 2 0
 F 33 29
-END
-}
-
-# A copy where there is no rt: without a program, and with one that is older than its sources.
-without_toolchain() {
-    copy=$work/copy
-    rm -rf "$copy"
-    mkdir -p "$copy/bin" "$copy/crates" "$copy/tools" "$copy/target/bin"
-    cp -R run crates.txt examples toolchain.txt "$copy"
-    cp tools/build.sh "$copy/tools"
-    for tool in bash cat dirname find head mkdir readlink rm tr wc; do ln -s "$(command -v "$tool")" "$copy/bin/$tool"; done
-    expect 'run: no toolchain' 2 env PATH="$copy/bin" "$copy/run" <<END
-! run: missing: rt (the Rattle toolchain: compiler and prover). Install the Rattle kit and put its bin folder on the PATH.
-END
-    cp target/bin/emorizugu "$copy/target/bin"
-    touch -d '2001-01-01' "$copy/target/bin/emorizugu"
-    expect 'run: no toolchain, and a program that is old' 0 env PATH="$copy/bin" "$copy/run" "$copy/examples/kind.msg" <<END
-1 0
-2 0
-F 33 29
-! run: runs the program as it was built: its sources are newer, and there is no toolchain on the PATH
-END
-    # Another toolchain than the one that the proofs were checked with.
-    printf '#!/bin/sh\necho another\n' >"$copy/bin/rt"
-    chmod +x "$copy/bin/rt"
-    echo 'the one' >"$copy/toolchain.txt"
-    touch -d '2001-01-01' "$copy/target/bin/emorizugu"
-    for tool in awk basename date grep sleep sort touch; do ln -s "$(command -v "$tool")" "$copy/bin/$tool"; done
-    expect 'run: another toolchain' 0 env PATH="$copy/bin" "$copy/run" "$copy/examples/kind.msg" <<END
-1 0
-2 0
-F 33 29
-! run: the toolchain on the PATH is 'another', and the proofs were checked with 'the one' (toolchain.txt)
-! run: building the desk program; what it stands on is proved first, which takes some minutes
 END
 }
 

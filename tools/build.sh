@@ -1,13 +1,49 @@
-# What ./run and ./desk share: they build what they run where it is missing or older than its sources.
+# shellcheck shell=bash
+# What ./run, ./desk and ./install share: they build what they need where it is missing or older than its sources.
 # A script that takes this in has set `name`, by which it speaks, and `here`, the repository's folder.
+: "${here:?}"
 
-die() {
-    echo "$name: $*" >&2
-    exit 2
+. "$here/tools/shared.sh" || exit 2
+
+# The version of the library's entries.
+library_version() {
+    sed -n 's/^#define EMORIZUGU_VERSION //p' "$here/include/emorizugu.h"
 }
 
-say() {
-    echo "$name: $*" >&2
+# Whether cargo does not run, or is older than the program needs; says which.
+old_cargo() {
+    local found least
+    least=$(sed -n 's/^rust-version = "\(.*\)"$/\1/p' "$here/command/Cargo.toml")
+    if ! found=$(cargo --version 2>&1); then
+        say "cargo does not run: ${found%%$'\n'*}"
+        return
+    fi
+    found=${found#cargo }
+    found=${found%% *}
+    [ "$(printf '%s\n' "$least" "$found" | sort -V | head -n 1)" = "$least" ] && return 1
+    say "cargo $found is too old: the program needs $least or newer, as Debian 13 has it"
+}
+
+# missing COMMAND: says what it is for and where it is to be had, where it is missing or too old.
+missing() {
+    if command -v "$1" >/dev/null 2>&1; then
+        [ "$1" = cargo ] && old_cargo
+        return
+    fi
+    case $1 in
+    rt) say 'missing: rt (the Rattle toolchain: compiler and prover). Install the Rattle kit and put its bin folder on the PATH.' ;;
+    cargo) say 'missing: cargo (builds the program). Debian: apt-get install cargo' ;;
+    cc) say 'missing: cc (links the program). Debian: apt-get install gcc libc6-dev' ;;
+    esac
+}
+
+# need COMMAND..: every one that is missing is named, before anything is built.
+need() {
+    local command lost=''
+    for command in "$@"; do
+        ! missing "$command" || lost=1
+    done
+    [ -z "$lost" ] || exit 2
 }
 
 # older FILE SOURCE..: whether the file is missing, or a source is newer. What a build leaves is in target/.
@@ -32,9 +68,8 @@ unproved() {
     older "$mark" "$here/crates.txt" "$here/crates" "$1"
 }
 
-# Whether the toolchain is at hand; says where it is another one than the proofs were checked with.
-toolchain() {
-    command -v rt >/dev/null 2>&1 || return 1
+# Says where the toolchain is another one than the proofs were checked with.
+compare_toolchain() {
     local pinned found
     pinned=$(cat "$here/toolchain.txt")
     found=$(rt version 2>/dev/null)
@@ -127,5 +162,3 @@ prove() {
     ended "$what" "$status" "$log" rt "$3" "$crate"
     touch "$mark"
 }
-
-missing_rt='missing: rt (the Rattle toolchain: compiler and prover). Install the Rattle kit and put its bin folder on the PATH.'
