@@ -8,8 +8,31 @@ use emorizugu_tests::replay;
 const HELD: usize = 4;
 const STATUS: usize = 2;
 
+/// What a replay writes beside what the other desks are lent.
+pub struct Tables {
+    told: [u64; replay::SUMMARY],
+    points: [u64; replay::POINTS],
+    versions: [u64; replay::VERSIONS],
+}
+
+impl Tables {
+    /// With nothing in them.
+    pub const EMPTY: Tables = Tables {
+        told: [0; replay::SUMMARY],
+        points: [0; replay::POINTS],
+        versions: [0; replay::VERSIONS],
+    };
+}
+
 /// A whole message file through a fresh desk: 0, or the number of the refusal that ended it.
 pub fn replay(file: &[u8], buffers: &mut Buffers) -> u64 {
+    let mut tables = Tables::EMPTY;
+    replay_to(file, buffers, &mut tables)
+}
+
+/// The same with tables that the caller lends.
+#[inline]
+pub fn replay_to(file: &[u8], buffers: &mut Buffers, tables: &mut Tables) -> u64 {
     let Buffers {
         values,
         book,
@@ -20,9 +43,12 @@ pub fn replay(file: &[u8], buffers: &mut Buffers) -> u64 {
         summary,
         statuses,
     } = buffers;
-    let mut told = [0; replay::SUMMARY];
-    let (mut points, mut versions) = ([0; replay::POINTS], [0; replay::VERSIONS]);
-    let tables = [&mut told[..], &mut points, &mut versions];
+    let Tables {
+        told,
+        points,
+        versions,
+    } = tables;
+    let tables = [&mut told[..], points, versions];
     let stores = [&mut values[..], book, log, schedules];
     let number = linked::replay(file, stores, series, answers, tables);
     if summary.len() >= SUMMARY {

@@ -221,13 +221,19 @@ fn growing() {
     println!("The middle one of the rounds' differences between two replays; the second number of rounds is that of plain.");
 }
 
-/// The stack of one replay of a month.
-fn stack_of(name: &str, replay: Replay) {
+/// The stack of one replay of a month. What it is lent stands elsewhere.
+fn stack_of(name: &str) {
     let month = month(96);
     let mut buffers = buffers(&month, 0);
-    let used = stack::used(move || {
-        black_box(replay(black_box(&month.file), black_box(&mut buffers)));
-    });
+    let mut tables = Box::new(linked::Tables::EMPTY);
+    let used = match desk(name) {
+        _ if name == "linked" => stack::used(move || {
+            black_box(linked::replay_to(&month.file, &mut buffers, &mut tables));
+        }),
+        replay => stack::used(move || {
+            black_box(replay(&month.file, &mut buffers));
+        }),
+    };
     match used {
         Some(bytes) => println!("{name:8} {bytes} bytes"),
         None => println!("{name:8} not known"),
@@ -260,7 +266,7 @@ fn main() {
     match words[..] {
         [] => months(),
         ["growth"] => growing(),
-        ["stack", name] => stack_of(name, desk(name)),
+        ["stack", name] => stack_of(name),
         [name, "month", quarters] => once(name, &month(number(quarters))),
         [name, "growth", quarters, held] => once(name, &growth(number(quarters), number(held))),
         _ => stop("[growth | stack DESK | DESK month QUARTERS | DESK growth QUARTERS HELD]"),
