@@ -76,6 +76,50 @@ extern "C" {
 #define EMORIZUGU_POINTS 256
 
 /*
+ * The kinds of calls that a message file carries, and of each the places of its fields in the file's order, from 0: behind
+ * EMORIZUGU_FIELDS where emorizugu_read gives them, from the start where emorizugu_write takes them. The last name of each
+ * says how many they are. A submission has its energies behind them, in the series. docs/FORMAT.md has the bytes.
+ */
+enum {
+    EMORIZUGU_OPEN = 1,
+    EMORIZUGU_ACTIVATE,
+    EMORIZUGU_DEACTIVATE,
+    EMORIZUGU_SUBMIT,
+    EMORIZUGU_NOTICE,
+    EMORIZUGU_ASSIGN,
+    EMORIZUGU_CLOSE,
+    EMORIZUGU_ISSUE
+};
+enum {
+    EMORIZUGU_OPEN_QUARTERS,
+    EMORIZUGU_OPEN_FIRST, /* the deadlines: first delivery, clearing, correction */
+    EMORIZUGU_OPEN_CLEARING,
+    EMORIZUGU_OPEN_CORRECTION,
+    EMORIZUGU_OPEN_GROUPS, /* the delta groups, 17 places: that of T, then those of areas 1 to 16 */
+    EMORIZUGU_OPEN_FIELDS = EMORIZUGU_OPEN_GROUPS + EMORIZUGU_DELTAS
+};
+enum {
+    EMORIZUGU_ACTIVATE_POINT,
+    EMORIZUGU_ACTIVATE_KIND,
+    EMORIZUGU_ACTIVATE_AREA,
+    EMORIZUGU_ACTIVATE_PARTNER,
+    EMORIZUGU_ACTIVATE_DAY,
+    EMORIZUGU_ACTIVATE_FIELDS
+};
+enum { EMORIZUGU_DEACTIVATE_POINT, EMORIZUGU_DEACTIVATE_DAY, EMORIZUGU_DEACTIVATE_FIELDS };
+enum { EMORIZUGU_SUBMIT_POINT, EMORIZUGU_SUBMIT_VERSION, EMORIZUGU_SUBMIT_DAY, EMORIZUGU_SUBMIT_FIELDS };
+enum {
+    EMORIZUGU_NOTICE_POINT,
+    EMORIZUGU_NOTICE_VERSION,
+    EMORIZUGU_NOTICE_VERDICT, /* 1 positive, 0 negative */
+    EMORIZUGU_NOTICE_DAY,
+    EMORIZUGU_NOTICE_FIELDS
+};
+enum { EMORIZUGU_ASSIGN_AREA /* 0 for T */, EMORIZUGU_ASSIGN_GROUP, EMORIZUGU_ASSIGN_DAY, EMORIZUGU_ASSIGN_FIELDS };
+enum { EMORIZUGU_CLOSE_RUN, EMORIZUGU_CLOSE_DAY, EMORIZUGU_CLOSE_FIELDS };
+enum { EMORIZUGU_ISSUE_RUN, EMORIZUGU_ISSUE_DAY, EMORIZUGU_ISSUE_FIELDS };
+
+/*
  * Numbers to lend for a month of so many quarter hours and versions: nothing is then refused for want of room. The log
  * has at most two rows a version. A call of a file takes at least three bytes, so length / 3 + 1 answers are enough.
  */
@@ -86,13 +130,23 @@ extern "C" {
 #define EMORIZUGU_SERIES_LENGTH EMORIZUGU_QUARTERS
 #define EMORIZUGU_ANSWERS_LENGTH(file_length) ((file_length) / 3 + 1)
 
-/* The stack that a call needs, in bytes, with room to spare: a replay was measured to touch 96,799. */
+/*
+ * The stack that a call needs, in bytes, with room to spare. A replay needs most, the same for every file: it was measured to
+ * use 58,040 bytes, from the frame that calls it down to the lowest byte that it writes, and 60,152 where the loader binds
+ * memcpy in that very call; the tests hold it below the half of this. Every other entry uses less than 4,096. What is lent
+ * is not in these, and need not be on the stack: struct emorizugu_lent alone has 35,296 bytes.
+ */
 #define EMORIZUGU_STACK 131072
 
-/* The places of a replay's summary. */
+/*
+ * The places of a replay's summary. By them two replays that end with 35 (EMORIZUGU_NO_ROOM) are told apart: where as many
+ * calls are answered as there are answers, the answers are full; where fewer are, the series is too short for the submission
+ * at EMORIZUGU_OFFSET. A file by itself has no 35, so emorizugu_file_refusal and emorizugu_file_offset know of neither.
+ */
 enum {
     EMORIZUGU_ANSWERED,  /* calls answered */
-    EMORIZUGU_OFFSET,    /* as emorizugu_file_offset gives it; 0 where the answers are full */
+    EMORIZUGU_OFFSET,    /* of the call that the reader refuses (31 to 35); the file's length where all of it was run; 0 where
+                            the answers are full */
     EMORIZUGU_OPENED,    /* quarter hours of the opening; 0 where no call opened the desk */
     EMORIZUGU_LOGGED,    /* log rows used */
     EMORIZUGU_HELD,      /* versions held */
@@ -186,6 +240,12 @@ uint64_t emorizugu_figure(const uint8_t *book, size_t length, uint64_t quarters,
  * nothing has 0 there. The schedules of a replay are 0, since message files carry no lodgings: a host writes those that
  * were lodged last, by the clearing deadline, each energy within 10^12 either way. The store of a replay is such
  * schedules as it stands, as its book is: (const uint8_t *)schedules, 8 x 64 x quarters.
+ *
+ * Days: a lodging is a call with a day. A desk refuses it before the desk's day (5) and behind the clearing deadline (26),
+ * and one that it takes sets the desk's day, so that a later call with a lower day is refused with 5. A replay never sees
+ * lodgings: its day comes from the file's calls alone, and it takes such a call. A host that has both keeps one order of
+ * days itself: it takes no lodging below the day of the call or lodging that was accepted last, nor behind the clearing
+ * deadline, and puts no call into the file whose day lies below that of a lodging accepted before it.
  */
 uint64_t emorizugu_report_refusal(const uint8_t *book, size_t length, const uint8_t *schedules, size_t schedules_length,
                                   uint64_t quarters, uint64_t run, uint64_t group);

@@ -50,6 +50,7 @@ compiled() { # compiler, program, what is compiled..
 in_c() {
     lines book.c && cmp "$work/examples/new.book" examples/month.book && lines host.c &&
         lines report.c && grep -q '^    5  *1000  *1000$' "$work/out" &&
+        lines calls.c && cmp "$work/examples/new.msg" examples/example.msg && grep -q '^    36  submit point 1, version 7, day 2, energies 1000$' "$work/out" &&
         lines calendar.c && [ "$(cat "$work/out")" = 9 ] && compiled gcc book -std=c99 examples/book.c examples/files.c
 }
 
@@ -63,6 +64,11 @@ in_python() {
 
 entries() {
     compiled gcc entries -std=gnu99 tests/entries.c -lpthread && "$work/entries" examples/month.msg
+}
+
+# Shows the stacks.
+calls() {
+    compiled gcc calls -std=gnu99 tests/calls.c -lpthread && "$work/calls" examples/month.msg >"$work/stacks"
 }
 
 times() {
@@ -203,7 +209,7 @@ all_listed() {
 
 documents() {
     local file
-    for file in LICENSE docs/CAUSES.md docs/GLOSSARY.md docs/RULES.md; do
+    for file in LICENSE docs/CAUSES.md docs/FORMAT.md docs/GLOSSARY.md docs/RULES.md; do
         cmp "$file" "$prefix/share/doc/emorizugu/${file##*/}" || return 1
     done
     (cd "$prefix/share/doc/emorizugu" && "$prefix/bin/desk" run examples/july.calls) | grep -q '^23 calls, none refused'
@@ -221,6 +227,7 @@ holds 'the hosts in C' in_c
 holds 'the host in C++' in_cpp
 holds 'the host in Python' in_python
 holds 'NULL with length 0, a small stack' entries
+holds "calls and their fields by name, short buffers, each entry's stack" calls && cat "$work/stacks"
 holds 'the measurements of docs/MEASURED.md' times
 emorizugu
 holds 'modes under umask 077' readable
