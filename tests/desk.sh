@@ -2162,7 +2162,7 @@ readme() {
 
 mkdir -p "$work" || exit 2
 # The first run builds the program; what that says is no part of a test.
-if ./desk --version >"$work/log" 2>&1; then
+if ./desk causes >"$work/log" 2>&1; then
     pass 'the program is built'
     refusals
     runs_refused
