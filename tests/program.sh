@@ -578,6 +578,7 @@ END
 ! run: $work/pipe cannot be kept whole in $kept: File too large
 END
     # A temporary file on a disk that is full.
+    # shellcheck disable=SC2016
     printf '#!/bin/sh\nln -s /dev/full "$TMPDIR/held" && echo "$TMPDIR/held"\n' >"$kept/bin/mktemp"
     chmod +x "$kept/bin/mktemp"
     expect 'run: a full disk' 2 env TMPDIR="$kept" PATH="$kept/bin:$PATH" sh -c './run - <examples/month.msg' <<END
