@@ -10,10 +10,14 @@ pub record Cases : Type 0 where
   pub sixteenth : working (dateNamed 2022 11 16) ≡ false
   pub twenty-third : working (dateNamed 2022 11 23) ≡ true
   pub twenty-second : working (dateNamed 2023 11 22) ≡ false
+  pub fifteenth : working (dateNamed 2023 11 15) ≡ true
+  -- "1 and 6 January": 2 January 2020 was a Thursday
+  pub second : working (dateNamed 2020 1 2) ≡ true
   -- "in 2020 and 2025 also 8 May"; 8 August is not on the list
   pub may-2020 : working (dateNamed 2020 5 8) ≡ false
   pub may-2025 : working (dateNamed 2025 5 8) ≡ false
   pub may-2023 : working (dateNamed 2023 5 8) ≡ true
+  pub may-2045 : working (dateNamed 2045 5 8) ≡ true
   pub august : working (dateNamed 2022 8 8) ≡ true
   -- "Easter + 39, + 50 and + 60 days" of 2049, whose Easter is 18 April: 27 May, 7 June, 17 June; "Good Friday, Easter Monday"
   pub friday-2049 : working (dateNamed 2049 4 16) ≡ false

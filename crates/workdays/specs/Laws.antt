@@ -6,7 +6,7 @@ use mathlib.Core.List.{List, [], _∷_}
 use lib.Dec.{ltb}
 use Rattle.workdays.specs.declared.Month.{Month}
 use Rattle.workdays.specs.declared.Date.{Date}
-use Rattle.workdays.specs.Date.{leapDay, daysIn, IsDate, dateNamed, monthOf, lengthOf, dayOfYear, weekday}
+use Rattle.workdays.specs.Date.{leapDay, daysIn, IsDate, dateNamed, monthOf, lengthOf, digitsOf, dayOfYear, weekday}
 use Rattle.workdays.specs.Rule.{easterDay, working}
 
 -- the first day of the month after
@@ -46,33 +46,61 @@ pub record Reckoned : Type 0 where
   -- "1 January 2020" was a Wednesday, and each day has the weekday behind that of the day before
   pub first-weekday : weekdayOf (dateNamed 2020 1 1) ≡ 3
   pub next-weekday : (d : Date) → IsDate d → nextDay d .year ≤ 2059 → weekdayOf (nextDay d) ≡ weekdayOf d % 7 + 1
+  -- a date's place in its year: 1 January has 1, each day one more than the day before, 31 December 365 or 366
+  pub first-place : (y : ℕ) → dayOfYear (dateNamed y 1 1) ≡ 1
+  pub next-place : (d : Date) → IsDate d → nextDay d .year ≡ d .year → dayOfYear (nextDay d) ≡ dayOfYear d + 1
+  pub last-place : (y : ℕ) → dayOfYear (dateNamed y 12 31) ≡ 365 + leapDay y
+  -- the digits of the day after are the larger number
+  pub next-digits : (d : Date) → IsDate d → digitsOf d < digitsOf (nextDay d)
   -- how long months are
   pub leap-years : EachYear 2020 leapDays (λ (y n : ℕ). leapDay y ≡ n)
   pub lengths : (y : ℕ) → lengthsOf y ≡ 31 ∷ (28 + leapDay y) ∷ 31 ∷ 30 ∷ 31 ∷ 30 ∷ 31 ∷ 31 ∷ 30 ∷ 31 ∷ 30 ∷ 31 ∷ []
   -- "Easter by the Gregorian rule"
   pub easters : EachYear 2020 easterDates (λ (y n : ℕ). easterDay y ≡ dayOfYear (dateNamed y (n / 100) (n % 100)))
 
--- none of a list's days, each month and day, is a working day of the year
-abbrev pub NoneWorks : (year : ℕ) → List ℕ → Type 0
-NoneWorks y [] = Unit {0}
-NoneWorks y (n ∷ l) = (working (dateNamed y (n / 100) (n % 100)) ≡ false) × NoneWorks y l
+-- on this day of this month
+abbrev pub On : (month day : ℕ) → Date → Type 0
+On m n d = (d .month ≡ m) × (d .day ≡ n)
 
--- the paper's list, line by line: what is not a working day, in whatever year, and by places in it
-pub record DaysOff : Type 0 where
-  -- "Saturdays, Sundays"
-  pub saturdays : (d : Date) → weekdayOf d ≡ 6 → working d ≡ false
-  pub sundays : (d : Date) → weekdayOf d ≡ 7 → working d ≡ false
-  -- "24 and 31 December"
-  pub december : (y : ℕ) → NoneWorks y (1224 ∷ 1231 ∷ [])
-  -- "1 and 6 January, 8 March, .. 1 May, .. 15 August, 20 September, 3 and 31 October, 1 November, .. 25 and 26 December"
-  pub fixed : (y : ℕ) → NoneWorks y (101 ∷ 106 ∷ 308 ∷ 501 ∷ 815 ∷ 920 ∷ 1003 ∷ 1031 ∷ 1101 ∷ 1225 ∷ 1226 ∷ [])
-  -- "Good Friday, Easter Monday, .. Easter + 39, + 50 and + 60 days"
-  pub good-friday : (d : Date) → dayOfYear d + 2 ≡ easterDay (d .year) → working d ≡ false
-  pub easter-monday : (d : Date) → dayOfYear d ≡ easterDay (d .year) + 1 → working d ≡ false
-  pub ascension : (d : Date) → dayOfYear d ≡ easterDay (d .year) + 39 → working d ≡ false
-  pub whit-monday : (d : Date) → dayOfYear d ≡ easterDay (d .year) + 50 → working d ≡ false
-  pub corpus-christi : (d : Date) → dayOfYear d ≡ easterDay (d .year) + 60 → working d ≡ false
+-- so many days behind Easter Sunday
+abbrev pub BehindEaster : (days : ℕ) → Date → Type 0
+BehindEaster n d = dayOfYear d ≡ easterDay (d .year) + n
+
+-- the paper's list, a case for each of its days
+pub data Listed (d : Date) : Type 0 where
+  -- "Saturdays, Sundays, 24 and 31 December"
+  saturday : weekdayOf d ≡ 6 → Listed d
+  sunday : weekdayOf d ≡ 7 → Listed d
+  christmas-eve : On 12 24 d → Listed d
+  new-years-eve : On 12 31 d → Listed d
+  -- "1 and 6 January, 8 March, Good Friday, Easter Monday, 1 May"
+  new-year : On 1 1 d → Listed d
+  epiphany : On 1 6 d → Listed d
+  womens-day : On 3 8 d → Listed d
+  good-friday : dayOfYear d + 2 ≡ easterDay (d .year) → Listed d
+  easter-monday : BehindEaster 1 d → Listed d
+  labour-day : On 5 1 d → Listed d
+  -- "Easter + 39, + 50 and + 60 days"
+  ascension : BehindEaster 39 d → Listed d
+  whit-monday : BehindEaster 50 d → Listed d
+  corpus-christi : BehindEaster 60 d → Listed d
+  -- "15 August, 20 September, 3 and 31 October, 1 November"
+  assumption : On 8 15 d → Listed d
+  childrens-day : On 9 20 d → Listed d
+  unity-day : On 10 3 d → Listed d
+  reformation-day : On 10 31 d → Listed d
+  all-saints : On 11 1 d → Listed d
   -- "the last Wednesday before 23 November": a Wednesday before it, with no other in between
-  pub wednesday : (d : Date) → weekdayOf d ≡ 3 → d .month ≡ 11 → d .day < 23 → 23 ≤ d .day + 7 → working d ≡ false
-  -- "in 2020 and 2025 also 8 May"
-  pub eighth-of-may : NoneWorks 2020 (508 ∷ []) × NoneWorks 2025 (508 ∷ [])
+  repentance-day : weekdayOf d ≡ 3 → d .month ≡ 11 → d .day < 23 → 23 ≤ d .day + 7 → Listed d
+  -- "25 and 26 December, and in 2020 and 2025 also 8 May"
+  christmas-day : On 12 25 d → Listed d
+  second-day : On 12 26 d → Listed d
+  may-2020 : d .year ≡ 2020 → On 5 8 d → Listed d
+  may-2025 : d .year ≡ 2025 → On 5 8 d → Listed d
+
+-- what is not a working day: the paper's list, no day less and no day more
+pub record DaysOff : Type 0 where
+  -- each day of the list, in whatever year
+  pub off : (d : Date) → Listed d → working d ≡ false
+  -- and no other date of those years
+  pub only : (d : Date) → IsDate d → working d ≡ false → Listed d
