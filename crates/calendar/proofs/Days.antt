@@ -13,7 +13,7 @@ use Rattle.workdays.specs.Date.{monthOk, dateOk, IsMonth, IsDate, lastOf, lengt
 use Rattle.workdays.specs.Count.{upTo, numberOf, worked, before}
 use Rattle.calendar.specs.Answer.{counts, number, dayNumber, dayFor}
 use Rattle.workdays.proofs.Lengths.{means-month, means-date, month-length}
-use Rattle.workdays.proofs.Counts.{later, end-of, same-place, place-rises, day-rises, before-rises}
+use Rattle.workdays.proofs.Counts.{later, end-of, last-date, same-date, same-place, place-rises, day-rises, before-rises}
 
 -- the number n of a date: month and date exist, the date is not before the month's last day, and n more working days are counted up to it than up to that day
 pub record Counted (m : Month) (d : Date) (n : ℕ) : Type 0 where
@@ -22,10 +22,6 @@ pub record Counted (m : Month) (d : Date) (n : ℕ) : Type 0 where
   pub after : digitsOf (lastOf m) ≤ digitsOf d
   pub counted : upTo d ≡ upTo (lastOf m) + n
   pub small : n ≤ 400
-
--- a month's last day is a date
-pub last-date : (m : Month) → IsMonth m → IsDate (lastOf m)
-last-date m h = (h, (omega (arith, month-length (m .year) (m .month)), omega arith))
 
 means-counts : (m : Month) (d : Date) → Means (counts m d) (IsMonth m × (IsDate d × (digitsOf (lastOf m) ≤ digitsOf d)))
 means-counts m d = means-and _ _ (means-month m) (λ _. means-and _ _ (means-date d) (λ _. means-le _ _))
@@ -82,9 +78,6 @@ last-zero m p =
       counted = omega arith;
       small = omega arith;
     })
-
-pub same-date : {a b c x y z : ℕ} → a ≡ x → b ≡ y → c ≡ z → _≡_ {A = Date} (record { year = a; month = b; day = c }) (record { year = x; month = y; day = z })
-same-date p q r = cc
 
 -- A date's month against the settled one, by their places.
 module _ (m : Month) (d : Date) (p : IsMonth m) (q : IsDate d) (i j : ℕ) (from : i ≡ indexOf m) (to : j ≡ indexOf (monthOf d)) where

@@ -15,13 +15,14 @@ use Rattle.calendar.specs.declared.DateAnswer.{DateAnswer}
 use Rattle.calendar.specs.declared.DateAnswer.the-variants.{Dated, NoDate}
 use Rattle.workdays.specs.Date.{daysIn, IsMonth, IsDate, lastOf, digitsOf}
 use Rattle.workdays.specs.Count.{upTo, numberOf}
+use Rattle.workdays.specs.Laws.{after, workingAfter}
 use Rattle.calendar.specs.Answer.{number, dayFor, FirstWith, dayRefusal, dayNumber, dateRefusal, dateDigits, OfFirst}
-use Rattle.calendar.specs.Laws.{Answers, after, workingAfter, lastDate}
+use Rattle.calendar.specs.Laws.{Answers, lastDate}
 use Rattle.workdays.proofs.Lengths.{month-length}
-use Rattle.workdays.proofs.Counts.{later}
-use Rattle.calendar.proofs.Days.{Counted, day-known, day-given, day-refused, last-date, same-date}
+use Rattle.workdays.proofs.Counts.{later, last-date, same-date}
+use Rattle.calendar.proofs.Days.{Counted, day-known, day-given, day-refused}
 use Rattle.calendar.proofs.Back.{zero-last}
-use Rattle.calendar.proofs.Walking.{Walked, walked, between, reaches}
+use Rattle.workdays.proofs.Walking.{Walked, walked, between, reaches}
 
 -- two dates with the same digits
 same-digits : (d e : Date) → IsDate d → IsDate e → digitsOf d ≡ digitsOf e → d ≡ e
@@ -39,7 +40,7 @@ none-later : (d : Date) → IsDate d → digitsOf d ≤ digitsOf lastDate
 none-later d q = let a = month-length (d .year) (d .month) in omega arith
 
 module _ (m : Month) where
-  walked-number : (k : ℕ) → IsMonth m → after m k .year ≤ 2059 → workingAfter m k ≤ 400 → dayFor m (after m k) ≡ number (workingAfter m k)
+  pub walked-number : (k : ℕ) → IsMonth m → after m k .year ≤ 2059 → workingAfter m k ≤ 400 → dayFor m (after m k) ≡ number (workingAfter m k)
   walked-number k p y s =
       let w : Walked m k = walked m p k y in
       day-given m (after m k) (workingAfter m k)
@@ -51,7 +52,7 @@ module _ (m : Month) where
       let s : Counted m e b = day-known m e b y in
       omega (arith, r .counted, s .counted, later d e (r .exists) (s .exists) h)
 
-  one-answer : (n : ℕ) (a b : DateAnswer) → FirstWith m n a → FirstWith m n b → a ≡ b
+  pub one-answer : (n : ℕ) (a b : DateAnswer) → FirstWith m n a → FirstWith m n b → a ≡ b
   one-answer n (Dated d) (Dated e) x y =
       ap Dated (same-digits d e (day-known m d n (x .0) .exists) (day-known m e n (y .0) .exists) (le-both (x .1 e (y .0)) (y .1 d (x .0))))
     where
@@ -61,7 +62,7 @@ module _ (m : Month) where
   one-answer n NoDate (Dated d) x y = absurd (x d (y .0))
   one-answer n NoDate NoDate x y = refl
 
-  refused : (d : Date) → (IsMonth m → IsDate d → digitsOf (lastOf m) ≤ digitsOf d → 400 < numberOf m d) → dayFor m d ≡ NoDay
+  pub refused : (d : Date) → (IsMonth m → IsDate d → digitsOf (lastOf m) ≤ digitsOf d → 400 < numberOf m d) → dayFor m d ≡ NoDay
   refused d f = day-refused m d (λ n r. omega (arith, f (r .settled) (r .exists) (r .after), r .counted, r .small))
 
   only-refused : (d : Date) → dayFor m d ≡ NoDay → IsMonth m → IsDate d → digitsOf (lastOf m) ≤ digitsOf d → 400 < numberOf m d
@@ -76,12 +77,12 @@ module _ (m : Month) where
       by true x = let z : _≡_ {A = ℕ} 0 1 = cc (given (leb-true (numberOf m d) 400 x)) in absurd (omega arith)
       by false x = leb-false (numberOf m d) 400 x
 
-  no-first : (n : ℕ) → (IsMonth m → n ≤ 400 → numberOf m lastDate < n) → FirstWith m n NoDate
+  pub no-first : (n : ℕ) → (IsMonth m → n ≤ 400 → numberOf m lastDate < n) → FirstWith m n NoDate
   no-first n f e x =
       let r : Counted m e n = day-known m e n x in
       omega (arith, f (r .settled) (r .small), r .counted, later e lastDate (r .exists) last-is (none-later e (r .exists)))
 
-  only-no-first : (n : ℕ) → FirstWith m n NoDate → IsMonth m → n ≤ 400 → numberOf m lastDate < n
+  pub only-no-first : (n : ℕ) → FirstWith m n NoDate → IsMonth m → n ≤ 400 → numberOf m lastDate < n
   only-no-first n f p s = by (leb n (numberOf m lastDate)) refl
     where
       reached : n ≤ numberOf m lastDate → (k : ℕ) × (after m k ≡ lastDate) → ⊥
@@ -121,7 +122,6 @@ pub answers : (m : Month) → Answers m
 answers m =
     record {
       counts = walked-number m;
-      reaches = λ d p q h. reaches m p d q h;
       rises = risen m;
       back = λ n d h. h .0;
       only = one-answer m;

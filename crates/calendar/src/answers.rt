@@ -91,16 +91,16 @@ fn day_with(m: Month, working: u64) -> DateAnswer
     DateAnswer::NoDate
 }
 
-pub fn date_for(settled: Month, number: u64) -> DateAnswer
-    ensures { λ r. ⌜ FirstWith settled number r ⌝ }
+pub fn date_for(settled: Month, number: Day) -> DateAnswer
+    ensures { λ r. ⌜ FirstWith settled (number .0) r ⌝ }
 {
     if !dates::month_ok(settled) {
         return DateAnswer::NoDate;
     }
-    if LAST_DAY < number {
+    if LAST_DAY < number.0 {
         return DateAnswer::NoDate;
     }
-    if number == 0 {
+    if number.0 == 0 {
         return DateAnswer::Dated(Date {
             year: settled.year,
             month: settled.month,
@@ -111,7 +111,7 @@ pub fn date_for(settled: Month, number: u64) -> DateAnswer
     if next == dates::MONTHS {
         return DateAnswer::NoDate;
     }
-    let count = table::entry(next) + number;
+    let count = table::entry(next) + number.0;
     let found = month_with(next, count);
     day_with(dates::month_at(found), count - table::entry(found))
 }

@@ -3,6 +3,7 @@ use crate::DateAnswer;
 use crate::DayAnswer;
 use crate::NO_DATE;
 use crate::answers;
+use quantity::Day;
 use workdays::Date;
 use workdays::Month;
 use workdays::dates;
@@ -24,8 +25,8 @@ pub fn day_refusal(year: u64, month: u64, y: u64, m: u64, d: u64) -> u64
     }
 }
 
-pub fn day_number(year: u64, month: u64, y: u64, m: u64, d: u64) -> u64
-    ensures { λ r. ⌜ r ≡ dayNumber (dayFor (monthNamed year month) (dateNamed y m d)) ⌝ }
+pub fn day_number(year: u64, month: u64, y: u64, m: u64, d: u64) -> Day
+    ensures { λ r. ⌜ r .0 ≡ dayNumber (dayFor (monthNamed year month) (dateNamed y m d)) ⌝ }
 {
     let date = Date {
         year: y,
@@ -33,13 +34,13 @@ pub fn day_number(year: u64, month: u64, y: u64, m: u64, d: u64) -> u64
         day: d,
     };
     match answers::day_for(Month { year, month }, date) {
-        DayAnswer::Numbered(day) => day.0,
-        DayAnswer::NoDay => 0,
+        DayAnswer::Numbered(day) => day,
+        DayAnswer::NoDay => Day(0),
     }
 }
 
-pub fn date_refusal(year: u64, month: u64, number: u64) -> u64
-    ensures { λ r. ⌜ OfFirst dateRefusal (monthNamed year month) number r ⌝ }
+pub fn date_refusal(year: u64, month: u64, number: Day) -> u64
+    ensures { λ r. ⌜ OfFirst dateRefusal (monthNamed year month) (number .0) r ⌝ }
 {
     match answers::date_for(Month { year, month }, number) {
         DateAnswer::Dated(_) => 0,
@@ -48,8 +49,8 @@ pub fn date_refusal(year: u64, month: u64, number: u64) -> u64
 }
 
 // Year, month and day as one number: 20261112.
-pub fn date_digits(year: u64, month: u64, number: u64) -> u64
-    ensures { λ r. ⌜ OfFirst dateDigits (monthNamed year month) number r ⌝ }
+pub fn date_digits(year: u64, month: u64, number: Day) -> u64
+    ensures { λ r. ⌜ OfFirst dateDigits (monthNamed year month) (number .0) r ⌝ }
 {
     match answers::date_for(Month { year, month }, number) {
         DateAnswer::Dated(date) => date.year * 10000 + date.month * 100 + date.day,

@@ -1,5 +1,6 @@
 // Days and dates of a settled month, by the calendar.
 use calendar::numbers;
+use quantity::Day;
 ghost use mathlib.Core.Path.{_≡_};
 ghost use Rattle.workdays.specs.Date.{monthNamed, dateNamed};
 ghost use Rattle.calendar.specs.Answer.{dayFor, dayRefusal, dayNumber, dateRefusal, dateDigits, OfFirst, weekdayFor};
@@ -17,7 +18,7 @@ pub extern "C" fn emorizugu_day_refusal(year: u64, month: u64, y: u64, m: u64, d
 pub extern "C" fn emorizugu_day(year: u64, month: u64, y: u64, m: u64, d: u64) -> u64
     ensures { λ r. ⌜ r ≡ dayNumber (dayFor (monthNamed year month) (dateNamed y m d)) ⌝ }
 {
-    numbers::day_number(year, month, y, m, d)
+    numbers::day_number(year, month, y, m, d).0
 }
 
 // 0, or 36 where no date has the number.
@@ -25,7 +26,7 @@ pub extern "C" fn emorizugu_day(year: u64, month: u64, y: u64, m: u64, d: u64) -
 pub extern "C" fn emorizugu_date_refusal(year: u64, month: u64, day: u64) -> u64
     ensures { λ r. ⌜ OfFirst dateRefusal (monthNamed year month) day r ⌝ }
 {
-    numbers::date_refusal(year, month, day)
+    numbers::date_refusal(year, month, Day(day))
 }
 
 // The first date with the number, as 20261112; 0 where it is refused.
@@ -33,7 +34,7 @@ pub extern "C" fn emorizugu_date_refusal(year: u64, month: u64, day: u64) -> u64
 pub extern "C" fn emorizugu_date(year: u64, month: u64, day: u64) -> u64
     ensures { λ r. ⌜ OfFirst dateDigits (monthNamed year month) day r ⌝ }
 {
-    numbers::date_digits(year, month, day)
+    numbers::date_digits(year, month, Day(day))
 }
 
 // Monday is 1, Sunday 7; 0 of what is no date.

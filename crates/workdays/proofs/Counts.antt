@@ -46,6 +46,9 @@ before-rises = rises before (λ i. omega (arith, month-more i))
 same-month : {a b c d : ℕ} → a ≡ c → b ≡ d → _≡_ {A = Month} (record { year = a; month = b }) (record { year = c; month = d })
 same-month p q = cc
 
+pub same-date : {a b c x y z : ℕ} → a ≡ x → b ≡ y → c ≡ z → _≡_ {A = Date} (record { year = a; month = b; day = c }) (record { year = x; month = y; day = z })
+same-date p q r = cc
+
 -- a month stands at its own place
 pub month-at : (m : Month) → IsMonth m → monthAt (indexOf m) ≡ m
 month-at m h = same-month (omega arith) (omega arith)
@@ -56,6 +59,10 @@ end-of m h =
     sym
     (month-more (indexOf m)
     ∙ ap (λ (k : Month). before (indexOf m) + worked k (lengthOf k)) (month-at m h))
+
+-- a month's last day is a date
+pub last-date : (m : Month) → IsMonth m → IsDate (lastOf m)
+last-date m h = (h, (omega (arith, month-length (m .year) (m .month)), omega arith))
 
 -- no date of a month lies behind it
 pub month-end : (d : Date) → IsDate d → upTo d ≤ before (indexOf (monthOf d) + 1)

@@ -4,3 +4,4 @@ pub mod Entries
 pub mod Lengths
 pub mod Listed
 pub mod Reckoning
+pub mod Walking

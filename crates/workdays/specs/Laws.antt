@@ -1,13 +1,14 @@
 -- Dates, Easter and the rule in other words.
-use Prim.Native.Nat.{ℕ, suc, _+_, _/_, _%_, _≤_, _<_}
+use Prim.Native.Nat.{ℕ, zero, suc, _+_, _/_, _%_, _≤_, _<_}
 use mathlib.Core.Path.{_≡_}
 use mathlib.Core.Bool.{false, cond}
 use mathlib.Core.List.{List, [], _∷_}
 use lib.Dec.{ltb}
 use Rattle.workdays.specs.declared.Month.{Month}
 use Rattle.workdays.specs.declared.Date.{Date}
-use Rattle.workdays.specs.Date.{leapDay, daysIn, IsDate, dateNamed, monthOf, lengthOf, digitsOf, dayOfYear, weekday}
+use Rattle.workdays.specs.Date.{leapDay, daysIn, IsMonth, IsDate, monthNamed, dateNamed, monthOf, lengthOf, dayIn, lastOf, indexOf, digitsOf, dayOfYear, weekday}
 use Rattle.workdays.specs.Rule.{easterDay, working}
+use Rattle.workdays.specs.Count.{before, numberOf}
 
 -- the first day of the month after
 abbrev pub firstAfter : Month → Date
@@ -104,3 +105,22 @@ pub record DaysOff : Type 0 where
   pub off : (d : Date) → Listed d → working d ≡ false
   -- and no other date of those years
   pub only : (d : Date) → IsDate d → working d ≡ false → Listed d
+
+-- so many days behind the month's last one
+unfoldable pub after : Month → ℕ → Date
+after m zero = lastOf m
+after m (suc k) = nextDay (after m k)
+
+-- how many of them are working days, day by day
+unfoldable pub workingAfter : Month → ℕ → ℕ
+workingAfter m zero = 0
+workingAfter m (suc k) = workingAfter m k + cond (working (after m (suc k))) 1 0
+
+-- the count of working days, for any settled month
+pub record Counting (m : Month) : Type 0 where
+  -- "A date's number counts the working days after the settled month up to and including it", day by day, however many they are
+  pub numbers : (k : ℕ) → IsMonth m → after m k .year ≤ 2059 → numberOf m (after m k) ≡ workingAfter m k
+  -- every date of those years from the month's last day on is such a day
+  pub reaches : (d : Date) → IsMonth m → IsDate d → digitsOf (lastOf m) ≤ digitsOf d → (k : ℕ) × (after m k ≡ d)
+  -- "for each month the number of working days before its first day, counted from 1 January 2020", which lies behind December 2019
+  pub table : (k : ℕ) → IsMonth m → after (monthNamed 2019 12) (suc k) ≡ dayIn m 1 → before (indexOf m) ≡ workingAfter (monthNamed 2019 12) k

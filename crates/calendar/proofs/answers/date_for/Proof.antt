@@ -12,7 +12,7 @@ month-ok-requires : tie.Need-month-ok-requires
 month-ok-requires c κs = search needs
 
 returns : tie.Need-returns
-returns c = no-month (c .before .before .args .settled) (c .before .before .args .number) (means-month (c .before .before .args .settled) .fails (sym (c .before .month-ok .ensures) ∙ not-true _ (c .if1 .taken)))
+returns c = no-month (c .before .before .args .settled) (c .before .before .args .number .0) (means-month (c .before .before .args .settled) .fails (sym (c .before .month-ok .ensures) ∙ not-true _ (c .if1 .taken)))
 
 returns-2 : tie.Need-returns-2
 returns-2 c = no-number _ _ (c .if2 .taken)
@@ -21,16 +21,16 @@ days-in-requires : tie.Need-days-in-requires
 days-in-requires c κs = search needs
 
 returns-3 : tie.Need-returns-3
-returns-3 c = zero-day _ _ _ (means-month (c .before .before .before .before .before .args .settled) .holds (sym (c .before .before .before .before .month-ok .ensures) ∙ not-false _ (c .before .before .before .if1 .left))) (c .before .if3 .taken) (c .days-in .ensures .0)
+returns-3 c = zero-day _ _ _ (means-month (c .before .before .before .before .before .before .before .args .settled) .holds (sym (c .before .before .before .before .before .before .month-ok .ensures) ∙ not-false _ (c .before .before .before .before .before .if1 .left))) (c .before .if3 .taken) (c .days-in .ensures .0)
 
 index-of-requires : tie.Need-index-of-requires
-index-of-requires c κs = means-month (c .before .before .before .before .args .settled) .holds (sym (c .before .before .before .month-ok .ensures) ∙ not-false _ (c .before .before .if1 .left))
+index-of-requires c κs = means-month (c .before .before .before .before .before .before .args .settled) .holds (sym (c .before .before .before .before .before .month-ok .ensures) ∙ not-false _ (c .before .before .before .before .if1 .left))
 
 add-next : tie.Need-add-next
 add-next c = search needs
 
 returns-4 : tie.Need-returns-4
-returns-4 c = last-month (c .before .before .before .before .before .before .args .settled) (c .before .before .before .before .before .before .args .number) (means-month (c .before .before .before .before .before .before .args .settled) .holds (sym (c .before .before .before .before .before .month-ok .ensures) ∙ not-false _ (c .before .before .before .before .if1 .left))) (omega (arith, c .before .index-of .ensures .0, c .if4 .taken)) (omega (arith, c .before .before .if3 .left))
+returns-4 c = last-month (c .before .before .before .before .before .before .before .before .args .settled) (c .before .before .before .before .before .before .before .before .args .number .0) (means-month (c .before .before .before .before .before .before .before .before .args .settled) .holds (sym (c .before .before .before .before .before .before .before .month-ok .ensures) ∙ not-false _ (c .before .before .before .before .before .before .if1 .left))) (omega (arith, c .before .index-of .ensures .0, c .if4 .taken)) (omega (arith, c .before .before .if3 .left))
 
 entry-requires : tie.Need-entry-requires
 entry-requires c κs = search needs
@@ -54,7 +54,7 @@ day-with-requires : tie.Need-day-with-requires
 day-with-requires c κs = search needs
 
 returns-5 : tie.Need-returns-5
-returns-5 c = way-back (c .before .before .before .before .before .before .before .before .before .before .before .args .settled) (c .before .before .before .before .before .before .before .before .before .before .before .args .number) _ _ _ _ _ (c .day-with .result) (means-month (c .before .before .before .before .before .before .before .before .before .before .before .args .settled) .holds (sym (c .before .before .before .before .before .before .before .before .before .before .month-ok .ensures) ∙ not-false _ (c .before .before .before .before .before .before .before .before .before .if1 .left))) (c .before .before .before .before .before .before .before .before .if2 .left) (c .before .before .before .before .before .before .index-of .ensures .0) (c .before .before .before .before .entry .ensures .0) (c .before .before .before .month-with .ensures) (c .before .before .month-at .ensures .0) (c .before .before .month-at .ensures .1) (c .before .entry2 .ensures .0) (c .day-with .ensures)
+returns-5 c = way-back (c .before .before .before .before .before .before .before .before .before .before .before .before .before .before .args .settled) (c .before .before .before .before .before .before .before .before .before .before .before .before .before .before .args .number .0) _ _ _ _ _ (c .day-with .result) (means-month (c .before .before .before .before .before .before .before .before .before .before .before .before .before .before .args .settled) .holds (sym (c .before .before .before .before .before .before .before .before .before .before .before .before .before .month-ok .ensures) ∙ not-false _ (c .before .before .before .before .before .before .before .before .before .before .before .before .if1 .left))) (c .before .before .before .before .before .before .before .before .before .before .if2 .left) (c .before .before .before .before .before .before .before .index-of .ensures .0) (c .before .before .before .before .before .entry .ensures .0) (c .before .before .before .month-with .ensures) (c .before .before .month-at .ensures .0) (c .before .before .month-at .ensures .1) (c .before .entry2 .ensures .0) (c .day-with .ensures)
 
 pub date-for-spec : {M : Type 1} → statement M
 date-for-spec =

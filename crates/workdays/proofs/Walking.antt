@@ -8,22 +8,21 @@ use native.Mathlib.Omega.{arith}
 use borrow.Author.Tests.{ltb-true, ltb-false, lt-ltb, le-ltb}
 use lib.Dec.{ltb}
 use Rattle.quantity.proofs.Tests.{by-test}
 use Rattle.workdays.specs.declared.Month.{Month}
 use Rattle.workdays.specs.declared.Date.{Date}
-use Rattle.workdays.specs.Date.{months, IsMonth, IsDate, monthNamed, dateNamed, monthOf, monthAt, dayIn, lastOf, lengthOf, indexOf, digitsOf}
+use Rattle.workdays.specs.Date.{months, daysIn, IsMonth, IsDate, monthNamed, dateNamed, monthOf, monthAt, dayIn, lastOf, lengthOf, indexOf, digitsOf}
 use Rattle.workdays.specs.Rule.{working}
-use Rattle.workdays.specs.Count.{one, worked, before, upTo}
-use Rattle.workdays.specs.Laws.{nextDay, firstAfter}
-use Rattle.calendar.specs.Laws.{after, workingAfter}
+use Rattle.workdays.specs.Count.{one, worked, before, upTo, numberOf}
+use Rattle.workdays.specs.Laws.{nextDay, firstAfter, after, workingAfter, Counting}
 use Rattle.workdays.proofs.Lengths.{month-length}
-use Rattle.workdays.proofs.Counts.{one-more, end-of, month-at, same-place, place-rises, day-rises}
-use Rattle.calendar.proofs.Days.{last-date, same-date}
+use Rattle.workdays.proofs.Reckoning.{at-next}
+use Rattle.workdays.proofs.Counts.{one-more, end-of, last-date, same-date, month-at, same-place, place-rises, day-rises}
 
 -- what holds of a day that follows another
 pub record Follows (d k : Date) : Type 0 where
   pub exists : k .year ≤ 2059 → IsDate k
   pub counted : k .year ≤ 2059 → upTo k ≡ upTo d + one (working k)
-  pub later : digitsOf d ≤ digitsOf k
+  pub later : digitsOf d < digitsOf k
 
 module _ (d : Date) (q : IsDate d) where
   -- a month's first day, behind the last one of the month before
@@ -63,14 +62,7 @@ module _ (d : Date) (q : IsDate d) where
       p y = ((omega (arith, q), omega arith), (omega arith, omega arith))
 
   pub follows : Follows d (nextDay d)
-  follows =
-      by-test (Follows d) (ltb (d .day) (lengthOf (monthOf d))) _ (firstAfter (monthOf d))
-      (λ e. next-day (ltb-true _ _ e))
-      (λ e.
-      let l : d .day ≡ lengthOf (monthOf d) = omega (arith, ltb-false (d .day) (lengthOf (monthOf d)) e, q) in
-      by-test (Follows d) (ltb (d .month) 12) _ _
-      (λ f. next-month l (ltb-true _ _ f))
-      (λ f. next-year l (omega (arith, ltb-false (d .month) 12 f, q))))
+  follows = at-next (Follows d) d q next-day next-month next-year
 
 pub year-rises : (d : Date) → d .year ≤ nextDay d .year
 year-rises d =
@@ -119,6 +111,9 @@ module _ (m : Month) (p : IsMonth m) where
         later = omega (arith, w .later, f .later);
       }
 
+  numbers : (k : ℕ) → after m k .year ≤ 2059 → numberOf m (after m k) ≡ workingAfter m k
+  numbers k y = omega (arith, walked k y .counted)
+
   -- every number up to a day's count is the count of a day before it
   pub between : (n k : ℕ) → n ≤ workingAfter m k → after m k .year ≤ 2059 → (j : ℕ) × ((workingAfter m j ≡ n) × (after m j .year ≤ 2059))
   unfolding after workingAfter
@@ -132,6 +127,19 @@ module _ (m : Month) (p : IsMonth m) where
       by : (n ≡ workingAfter m (suc k)) ⊎ (n < workingAfter m (suc k)) → (n ≤ workingAfter m k → (j : ℕ) × ((workingAfter m j ≡ n) × (after m j .year ≤ 2059))) → (j : ℕ) × ((workingAfter m j ≡ n) × (after m j .year ≤ 2059))
       by (inl e) f = (suc k, (sym e, y))
       by (inr l) f = f (omega (arith, l, step (working (after m (suc k)))))
+
+  -- an earlier day has the smaller digits, and no larger count
+  pub earlier : (j k : ℕ) → j < k → after m k .year ≤ 2059 → (after m j .year ≤ 2059) × ((digitsOf (after m j) < digitsOf (after m k)) × (workingAfter m j ≤ workingAfter m k))
+  unfolding after workingAfter
+  earlier j zero h y = absurd (omega arith)
+  earlier j (suc k) h y =
+      let l : j ≤ k = omega arith in
+      let z : after m k .year ≤ 2059 = omega (arith, year-rises (after m k)) in
+      by z (follows (after m k) (walked k z .exists) .later) (eq-or-lt-of-le l) (λ s. earlier j k s z)
+    where
+      by : after m k .year ≤ 2059 → digitsOf (after m k) < digitsOf (nextDay (after m k)) → (j ≡ k) ⊎ (j < k) → (j < k → (after m j .year ≤ 2059) × ((digitsOf (after m j) < digitsOf (after m k)) × (workingAfter m j ≤ workingAfter m k))) → (after m j .year ≤ 2059) × ((digitsOf (after m j) < digitsOf (nextDay (after m k))) × (workingAfter m j ≤ workingAfter m (suc k)))
+      by z step (inl e) f = rw e (z, (step, omega arith))
+      by z step (inr s) f = let r = f s in (r .0, (omega (arith, r), omega (arith, r)))
 
   -- from a month's first day to any other day of it
   in-month : (k : ℕ) (t : Month) → after m k ≡ dayIn t 1 → (j : ℕ) → j < lengthOf t → after m (k + j) ≡ dayIn t (j + 1)
@@ -187,3 +195,27 @@ module _ (m : Month) (p : IsMonth m) where
       by : (indexOf m ≡ indexOf (monthOf d)) ⊎ (indexOf m < indexOf (monthOf d)) → (k : ℕ) × (after m k ≡ d)
       by (inl e) = let s : m ≡ monthOf d = same-place m (monthOf d) p (q .0) e in (0, in-same d q s (day-rises (lastOf m) d s l))
       by (inr e) = in-later d q (indexOf (monthOf d) - indexOf m - 1) (gap (indexOf m) (indexOf (monthOf d)) e)
+
+-- from 1 January 2020 on the days behind December 2019 are the dates of those years, and their count is that of the table
+from-first : (k : ℕ) → after (monthNamed 2019 12) (suc k) .year ≤ 2059 → IsDate (after (monthNamed 2019 12) (suc k)) × (upTo (after (monthNamed 2019 12) (suc k)) ≡ workingAfter (monthNamed 2019 12) (suc k))
+unfolding after workingAfter before worked daysIn
+from-first zero y = ((((omega arith, omega arith), (omega arith, omega arith)), (omega arith, omega arith)), omega arith)
+from-first (suc k) y =
+    let w = from-first k (omega (arith, year-rises (after (monthNamed 2019 12) (suc k)))) in
+    let f = follows (after (monthNamed 2019 12) (suc k)) (w .0) in
+    (f .exists y, omega (arith, w, f .counted y))
+
+before-first : (m : Month) (k : ℕ) → IsMonth m → after (monthNamed 2019 12) (suc k) ≡ dayIn m 1 → before (indexOf m) ≡ workingAfter (monthNamed 2019 12) k
+unfolding worked workingAfter
+before-first m k p e =
+    let y : after (monthNamed 2019 12) (suc k) .year ≡ m .year = ap (λ (d : Date). d .year) e in
+    let w : one (working (after (monthNamed 2019 12) (suc k))) ≡ one (working (dayIn m 1)) = ap (λ (d : Date). one (working d)) e in
+    omega (arith, from-first k (omega (arith, p)) .1, ap upTo e, one-more m 0)
+
+pub counting : (m : Month) → Counting m
+counting m =
+    record {
+      numbers = λ k p y. numbers m p k y;
+      reaches = λ d p q h. reaches m p d q h;
+      table = before-first m;
+    }
