@@ -12,7 +12,7 @@ use Rattle.quantity.proofs.Tests.{by-test, and-left, and-right}
 use Rattle.workdays.specs.declared.Date.{Date}
 use Rattle.workdays.specs.Date.{leap, leapDay, daysIn, daysOf, IsDate, monthOf, lengthOf, dateNamed, digitsOf, daysBefore, dayOfYear, weekday}
 use Rattle.workdays.specs.Rule.{easterDay, fullMoon}
-use Rattle.workdays.specs.Laws.{Reckoned, nextDay, firstAfter, weekdayOf, EachYear, leapDays, easterDates}
+use Rattle.workdays.specs.Laws.{Reckoned, nextDay, firstAfter, weekdayOf, EachFrom, leapDays, easterDates}
 use Rattle.workdays.proofs.Lengths.{month-length}
 
 -- a day more in a year
@@ -25,7 +25,7 @@ tested : (f : ℕ → ℕ) (g : ℕ → ℕ → ℕ) → ℕ → List ℕ → Bo
 tested f g y [] = true
 tested f g y (n ∷ l) = eqb (f y) (g y n) && tested f g (suc y) l
 
-each-equal : (f : ℕ → ℕ) (g : ℕ → ℕ → ℕ) (y : ℕ) (l : List ℕ) → tested f g y l ≡ true → EachYear y l (λ (y n : ℕ). f y ≡ g y n)
+each-equal : (f : ℕ → ℕ) (g : ℕ → ℕ → ℕ) (y : ℕ) (l : List ℕ) → tested f g y l ≡ true → EachFrom y l (λ (y n : ℕ). f y ≡ g y n)
 unfolding tested
 each-equal f g y [] e = tt
 each-equal f g y (n ∷ l) e =
@@ -123,6 +123,6 @@ reckoned =
       last-place = last-place;
       next-digits = next-digits;
       leap-years = each-equal leapDay (λ (y n : ℕ). n) 2020 leapDays refl;
-      lengths = λ y. refl;
+      lengths = λ y. (refl, (refl, (refl, (refl, (refl, (refl, (refl, (refl, (refl, (refl, (refl, (refl, tt))))))))))));
       easters = each-equal easterDay (λ (y n : ℕ). dayOfYear (dateNamed y (n / 100) (n % 100))) 2020 easterDates refl;
     }

@@ -22,15 +22,10 @@ nextDay d = cond (ltb (d .day) (lengthOf (monthOf d))) (dateNamed (d .year) (d .
 abbrev pub weekdayOf : Date → ℕ
 weekdayOf d = weekday (d .year) (dayOfYear d)
 
--- the lengths of a year's months
-abbrev pub lengthsOf : (year : ℕ) → List ℕ
-lengthsOf y =
-    daysIn y 1 ∷ daysIn y 2 ∷ daysIn y 3 ∷ daysIn y 4 ∷ daysIn y 5 ∷ daysIn y 6 ∷ daysIn y 7 ∷ daysIn y 8 ∷ daysIn y 9 ∷ daysIn y 10 ∷ daysIn y 11 ∷ daysIn y 12 ∷ []
-
--- so many years from one on, each with a list's element: what is said of it
-abbrev pub EachYear : (year : ℕ) → List ℕ → (ℕ → ℕ → Type 0) → Type 0
-EachYear y [] P = Unit {0}
-EachYear y (n ∷ l) P = P y n × EachYear (suc y) l P
+-- of a list's elements, each with its number, counted from this one on
+abbrev pub EachFrom : (number : ℕ) → List ℕ → (ℕ → ℕ → Type 0) → Type 0
+EachFrom i [] P = Unit {0}
+EachFrom i (n ∷ l) P = P i n × EachFrom (suc i) l P
 
 -- 2020, 2024 .. 2056 have a day more
 abbrev pub leapDays : List ℕ
@@ -54,10 +49,10 @@ pub record Reckoned : Type 0 where
   -- the digits of the day after are the larger number
   pub next-digits : (d : Date) → IsDate d → digitsOf d < digitsOf (nextDay d)
   -- how long months are
-  pub leap-years : EachYear 2020 leapDays (λ (y n : ℕ). leapDay y ≡ n)
-  pub lengths : (y : ℕ) → lengthsOf y ≡ 31 ∷ (28 + leapDay y) ∷ 31 ∷ 30 ∷ 31 ∷ 30 ∷ 31 ∷ 31 ∷ 30 ∷ 31 ∷ 30 ∷ 31 ∷ []
+  pub leap-years : EachFrom 2020 leapDays (λ (y n : ℕ). leapDay y ≡ n)
+  pub lengths : (y : ℕ) → EachFrom 1 (31 ∷ (28 + leapDay y) ∷ 31 ∷ 30 ∷ 31 ∷ 30 ∷ 31 ∷ 31 ∷ 30 ∷ 31 ∷ 30 ∷ 31 ∷ []) (λ (m n : ℕ). daysIn y m ≡ n)
   -- "Easter by the Gregorian rule"
-  pub easters : EachYear 2020 easterDates (λ (y n : ℕ). easterDay y ≡ dayOfYear (dateNamed y (n / 100) (n % 100)))
+  pub easters : EachFrom 2020 easterDates (λ (y n : ℕ). easterDay y ≡ dayOfYear (dateNamed y (n / 100) (n % 100)))
 
 -- on this day of this month
 abbrev pub On : (month day : ℕ) → Date → Type 0
