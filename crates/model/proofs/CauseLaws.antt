@@ -18,6 +18,7 @@ use Rattle.model.specs.declared.Answer.the-variants.{Accepted, Refused}
 use Rattle.model.specs.declared.Cause.{Cause}
 use Rattle.model.specs.declared.Ruling.{Ruling}
 use Rattle.model.specs.declared.Ruling.the-variants.{Fine, Refuse}
+use Rattle.model.proofs.Accepting.{lines-passed}
 use Rattle.model.proofs.Rules.{not-refused, passed, passed-fine, past, first-decides, decides-first}
 
 -- ---- each cause both ways, on a desk in any state
@@ -64,9 +65,4 @@ module _ (d : Desk) (l : Lent) where
 
 -- what a desk says to an accepted call
 pub accepted-passed : (d : Desk) (l : Lent) → step d l .answer ≡ Accepted → Passed (lines d (told l))
-unfolding step decided refusalBy
-accepted-passed d l e = go (refusalBy d (told l)) refl e
-  where
-    go : (v : Ruling) → refusalBy d (told l) ≡ v → decided v d (l .stores) (l .call) .answer ≡ Accepted → Passed (lines d (told l))
-    go Fine z e = passed (lines d (told l)) z
-    go (Refuse y) z e = not-refused y (sym e)
+accepted-passed d l e = lines-passed d l (λ x z. not-refused x (sym e ∙ z))

@@ -1,26 +1,19 @@
--- What an accepted notice and an issue change, that one call never owes two log rows, and that show's part is the row. Assumes nothing.
-use Prim.Native.Nat.{ℕ, _≤_}
+-- What an accepted notice and an issue change, and that one call never owes two log rows. Assumes nothing.
+use Prim.Native.Nat.{ℕ}
 use mathlib.Core.Path.{_≡_, refl, sym, ap, _∙_}
 use mathlib.Core.Bool.{Bool, true, false, _&&_, true≢false}
 use mathlib.Core.Logic.{_⊎_, inl, inr, ⊎-elim}
 use mathlib.Core.List.{List}
-use native.Mathlib.Omega.{arith}
 use borrow.Author.Tests.{eqb-true, not-false}
 use lib.Dec.{leb, eqb}
 use lib.ListN.{length, length-set}
 use lib.Seq.{getD-set-same, getD-set-other}
-use Rattle.quantity.specs.Limits.{runs, groups, runOk, groupOk}
 use Rattle.quantity.specs.Lists.{fold}
-use Rattle.quantity.proofs.Tests.{by-test, and-left, and-right, or-left, within-low, within-high}
-use Rattle.book.specs.Place.{groupRow, rowStart}
-use Rattle.book.proofs.Places.{row-within}
-use Rattle.book.proofs.Rows.{length-part}
+use Rattle.quantity.proofs.Tests.{by-test, and-left, and-right}
 use Rattle.state.specs.Change.{confirm, settle, settledBy}
 use Rattle.state.specs.Selection.{own, withStatus, SameVersion, versionOf}
 use Rattle.state.specs.Status.{isCheck, counts, submittedStatus, confirmedStatus, settledStatus}
-use Rattle.state.specs.Valid.{openingOk, frameOk, validDesk}
 use Rattle.state.specs.Version.{recordAt, emptyVersion, newVersion, restatus, held, HeldIn}
-use Rattle.state.specs.declared.Desk.{Desk}
 use Rattle.state.specs.declared.Held.{Held}
 use Rattle.state.specs.declared.Held.the-variants.{Absent, Has}
 use Rattle.state.specs.declared.Selection.the-variants.{Selected}
@@ -30,15 +23,11 @@ use Rattle.state.specs.declared.VersionRecord.{VersionRecord}
 use Rattle.state.specs.declared.VersionRow.{VersionRow}
 use Rattle.state.proofs.Kept.{notice-negative, notice-other, settle-at, settle-same, settle-selected}
 use Rattle.state.proofs.Picks.{held-right, submit-other}
-use Rattle.model.specs.Call.{Call, opens, activates, deactivates, submits, notices, assigns, shows, asks, closes, issues, lodges, reports, Stores, Lengths, Lent, told, telling}
-use Rattle.model.specs.Causes.{rules, notCheck, otherLengths}
+use Rattle.model.specs.Call.{Call, opens, activates, deactivates, submits, notices, assigns, shows, asks, closes, issues, lodges, reports, Lengths, telling}
+use Rattle.model.specs.Causes.{rules, notCheck}
 use Rattle.model.specs.Laws.{Passed, Confirms, OwesOne}
 use Rattle.model.specs.Plain.{Worked, after, viewBy}
-use Rattle.model.specs.Step.{lines, refusalBy, decided, step}
-use Rattle.model.specs.declared.Answer.the-variants.{Accepted}
-use Rattle.model.proofs.CauseLaws.{accepted-passed}
-use Rattle.model.proofs.Invariant.{book-is, quarters-in}
-use Rattle.model.proofs.Rules.{passed-fine, past}
+use Rattle.model.proofs.Rules.{past}
 use Rattle.model.proofs.Selections.{own-uncounted, own-unturned}
 
 -- ---- "Positive turns status 1 into 2 if day ≤ C, else 4. Negative changes no status."
@@ -135,21 +124,3 @@ one-owed w n (closes r d) = owes-none (w .versions) (w .versions) (λ r i. refl)
 one-owed w n (issues r d) = owes-none (w .versions) (settledBy r (w .versions)) (settle-same r (w .versions))
 one-owed w n (lodges g d es) = owes-none (w .versions) (w .versions) (λ r i. refl)
 one-owed w n (reports r g) = owes-none (w .versions) (w .versions) (λ r i. refl)
-
--- ---- "the part is empty exactly when the number is not 0": an accepted show's part has Q figures, on a desk in any state
-
-pub show-part : (d : Desk) (s : Stores) (r g : ℕ) → step d (record { call = shows r g; stores = s }) .answer ≡ Accepted
-    → (length (step d (record { call = shows r g; stores = s }) .part) ≡ d .frame .opening .quarters) × (1 ≤ d .frame .opening .quarters)
-unfolding step decided refusalBy validDesk frameOk otherLengths
-show-part d s r g e =
-    let l : Lent = record { call = shows r g; stores = s } in
-    let P = accepted-passed d l e in
-    let Q = d .frame .opening .quarters in
-    let valid : validDesk d ≡ true = not-false (validDesk d) (P .0) in
-    let ok = and-left (openingOk (d .frame .opening)) _ (and-left (frameOk (d .frame)) _ valid) in
-    let long : length (s .book) ≡ d .frame .opening .book = eqb-true (length (s .book)) (d .frame .opening .book) (not-false (eqb (length (s .book)) (d .frame .opening .book)) (or-left _ _ (P .1 .1 .0))) in
-    let fields = not-false (runOk r && groupOk g) (P .1 .1 .1 .0) in
-    let inR = and-left (runOk r) _ fields in
-    let fits = row-within Q r (groupRow g) (within-low 1 runs r inR) (within-high 1 runs r inR) (omega (arith, within-high 1 groups g (and-right (runOk r) _ fields))) in
-    rw (passed-fine (lines d (told l)) P)
-    (length-part (s .book) (rowStart Q r (groupRow g)) Q (omega (arith, book-is (d .frame .opening) ok)), quarters-in (d .frame .opening) ok)

@@ -1,3 +1,4 @@
+pub mod Accepting
 pub mod Afterwards
 pub mod Amends
 pub mod Assign
@@ -30,6 +31,7 @@ pub mod Onward
 pub mod Points
 pub mod Queries
 pub mod Regrouped
+pub mod Replies
 pub mod Restating
 pub mod Rules
 pub mod Sample

@@ -5,6 +5,7 @@ pub mod Demands
 pub mod Laws
 pub mod Log
 pub mod Plain
+pub mod Replies
 pub mod Sample
 pub mod Series
 pub mod Step
