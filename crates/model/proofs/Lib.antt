@@ -33,6 +33,7 @@ pub mod Queries
 pub mod Regrouped
 pub mod Replies
 pub mod Restating
+pub mod Rows
 pub mod Rules
 pub mod Sample
 pub mod SampleRunning

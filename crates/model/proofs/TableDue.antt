@@ -60,30 +60,42 @@ same-differ s t e = rw e (differ-same s)
 
 -- ---- a submission whose version is above all of its point
 
-module _ (vs : List VersionRecord) (f p x d : ℕ) (above : highest p vs < x) where
+module _ (vs : List VersionRecord) (f row p x d : ℕ) (above : highest p vs < x) where
   -- the version that it makes
   abbrev new : VersionRecord
-  new = newVersion f (length vs) p x d
+  new = newVersion f row p x d
 
   outside : (s : Selection) → Highest (isCounted 1 p) vs (length vs) s → differ s (Selected (rowAt (length vs) new)) ≡ true
   unfolding differ
   outside None h = refl
   outside (Selected r) h = rw (ne-eqb (r .at) (length vs) (λ e. omega (arith, h .within, e)))
 
-  -- "Status 2 if day ≤ F, else 1.": so run 1's selection changes exactly by F
-  pub means-submit-due : (used log : ℕ) → Means (logFull used log (due vs (submitted new vs) p d)) ((d ≤ f) × (log < 4 * (used + 1)))
-  means-submit-due used log = by-change used log (due vs (submitted new vs) p d) (leb d f) (means-le d f) row none
-    where
-      row : leb d f ≡ true → (r : LogRow) × (due vs (submitted new vs) p d ≡ Row r)
-      row e =
-          let passes : isCounted 1 p new ≡ true = rw (e, eq-eqb p p refl) in
-          let chosen = best-newest (isCounted 1 p) vs new passes (omega (arith, above, own-most 1 p vs)) in
-          (logRow d p 1 (own 1 p (submitted new vs)), changed-first vs (submitted new vs) p d (ap (differ (own 1 p vs)) chosen ∙ outside (own 1 p vs) (own-highest 1 p vs)))
+  -- "Status 2 if day ≤ F, else 1.": by F run 1 selects it
+  submit-chosen : leb d f ≡ true → own 1 p (submitted new vs) ≡ Selected (rowAt (length vs) new)
+  submit-chosen e =
+      let passes : isCounted 1 p new ≡ true = rw (e, eq-eqb p p refl) in
+      best-newest (isCounted 1 p) vs new passes (omega (arith, above, own-most 1 p vs))
 
-      none : leb d f ≡ false → due vs (submitted new vs) p d ≡ Nothing
-      none e = due-same vs (submitted new vs) p d (λ r. ap (withStatus Check) (submit-check r p new vs (rw e)))
+  pub submit-taken : leb d f ≡ true → versionOf (own 1 p (submitted new vs)) ≡ x
+  submit-taken e = ap versionOf (submit-chosen e)
+
+  -- so a row is due exactly by F
+  pub submit-due : leb d f ≡ true → due vs (submitted new vs) p d ≡ Row (logRow d p 1 (own 1 p (submitted new vs)))
+  submit-due e = changed-first vs (submitted new vs) p d (ap (differ (own 1 p vs)) (submit-chosen e) ∙ outside (own 1 p vs) (own-highest 1 p vs))
+
+  pub submit-undue : leb d f ≡ false → due vs (submitted new vs) p d ≡ Nothing
+  submit-undue e = due-same vs (submitted new vs) p d (λ r. ap (withStatus Check) (submit-check r p new vs (rw e)))
+
+  pub means-submit-due : (used log : ℕ) → Means (logFull used log (due vs (submitted new vs) p d)) ((d ≤ f) × (log < 4 * (used + 1)))
+  means-submit-due used log = by-change used log (due vs (submitted new vs) p d) (leb d f) (means-le d f) (λ e. (_, submit-due e)) submit-undue
 
 -- ---- a notice on the highest version of its point, which is check data
+
+-- a negative one owes no row
+pub notice-undue : (vs : List VersionRecord) (c p x y d : ℕ) → eqb y 1 ≡ false → due vs (noticed c p x y d vs) p d ≡ Nothing
+notice-undue vs c p x y d e =
+    let same = notice-negative c p x y d vs (eqb-false y 1 e) in
+    due-same vs (noticed c p x y d vs) p d (λ r. ap (λ (l : List VersionRecord). withStatus Check (own r p l)) same)
 
 -- where 25 does not hold, the version found is check data
 pub check-held : (h : Held) → notCheck h ≡ false → (i : ℕ) × ((v : VersionRecord) × ((h ≡ Has i v) × (v .status ≡ Check)))
@@ -139,7 +151,7 @@ module _ (vs : List VersionRecord) (c p x d i : ℕ) (v : VersionRecord) (found 
 
   -- exactly a positive one
   pub means-notice-due : (y used log : ℕ) → Means (logFull used log (due vs (noticed c p x y d vs) p d)) ((y ≡ 1) × (log < 4 * (used + 1)))
-  means-notice-due y used log = by-change used log (due vs (noticed c p x y d vs) p d) (eqb y 1) (means-eq y 1) row none
+  means-notice-due y used log = by-change used log (due vs (noticed c p x y d vs) p d) (eqb y 1) (means-eq y 1) row (notice-undue vs c p x y d)
     where
       by-day : (t : Bool) → leb d c ≡ t → (r : LogRow) × (due vs (noticed c p x 1 d vs) p d ≡ Row r)
       by-day true e = (_, notice-first (leb-true d c e))
@@ -147,8 +159,3 @@ module _ (vs : List VersionRecord) (c p x d i : ℕ) (v : VersionRecord) (found 
 
       row : eqb y 1 ≡ true → (r : LogRow) × (due vs (noticed c p x y d vs) p d ≡ Row r)
       row e = subst (λ (z : ℕ). (r : LogRow) × (due vs (noticed c p x z d vs) p d ≡ Row r)) (sym (eqb-true y 1 e)) (by-day (leb d c) refl)
-
-      none : eqb y 1 ≡ false → due vs (noticed c p x y d vs) p d ≡ Nothing
-      none e =
-          let same = notice-negative c p x y d vs (eqb-false y 1 e) in
-          due-same vs (noticed c p x y d vs) p d (λ r. ap (λ (l : List VersionRecord). withStatus Check (own r p l)) same)

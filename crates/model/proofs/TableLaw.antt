@@ -158,7 +158,7 @@ module _ (v : View) (n : Lengths) where
       said (means-present (v .versions) p x) (λ free.
       said (means-below (v .versions) p x) (λ up.
       said (means-or (leb versions (length (v .versions))) _ (means-le 512 (length (v .versions))) (means-lt (v .frame .opening .values) ((length (v .versions) + 1) * v .frame .opening .quarters))) (λ _.
-      said (means-submit-due (v .versions) (v .frame .opening .first .0) p x d (highest-below p x d es fields free up) (v .frame .used) (v .frame .opening .log)) (λ _.
+      said (means-submit-due (v .versions) (v .frame .opening .first .0) (length (v .versions)) p x d (highest-below p x d es fields free up) (v .frame .used) (v .frame .opening .log)) (λ _.
       tt)))))))))))
   says (notices p x y d) =
       said unopened (λ _.

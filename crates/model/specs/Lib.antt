@@ -6,6 +6,7 @@ pub mod Laws
 pub mod Log
 pub mod Plain
 pub mod Replies
+pub mod Rows
 pub mod Sample
 pub mod Series
 pub mod Step
