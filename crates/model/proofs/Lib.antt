@@ -19,6 +19,7 @@ pub mod Fresh
 pub mod Invariant
 pub mod Issued
 pub mod IssuedStatus
+pub mod LeftAlone
 pub mod Lending
 pub mod Lends
 pub mod Lists

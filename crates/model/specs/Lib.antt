@@ -3,6 +3,7 @@ pub mod Call
 pub mod Causes
 pub mod Demands
 pub mod Laws
+pub mod Leaves
 pub mod Log
 pub mod Plain
 pub mod Replies
