@@ -1,9 +1,10 @@
 -- What an accepted notice and an issue change, and that one call never owes two log rows. Assumes nothing.
-use Prim.Native.Nat.{ℕ}
+use Prim.Native.Nat.{ℕ, _≤_, _<_}
 use mathlib.Core.Path.{_≡_, refl, sym, ap, _∙_}
 use mathlib.Core.Bool.{Bool, true, false, _&&_, true≢false}
 use mathlib.Core.Logic.{_⊎_, inl, inr, ⊎-elim}
 use mathlib.Core.List.{List}
+use native.Mathlib.Omega.{arith}
 use borrow.Author.Tests.{eqb-true, not-false}
 use lib.Dec.{leb, eqb}
 use lib.ListN.{length, length-set}
@@ -37,30 +38,34 @@ pub notice-none : (w : Worked) (n : Lengths) (p x y d : ℕ) → (y ≡ 1 → �
 unfolding after fold
 notice-none w n p x y d ne = notice-negative (w .opening .clearing .0) p x y d (w .versions) ne
 
+-- of the version found among the first n of a table
+pub confirmed : (c p x d n : ℕ) (vs : List VersionRecord) (h : Held) → notCheck h ≡ false → HeldIn p x vs n h → n ≤ length vs → Confirms p x (confirmedStatus c d) vs (confirm c 1 d h vs)
+unfolding notCheck
+confirmed c p x d n vs Absent e q few = absurd (true≢false e)
+confirmed c p x d n vs (Has i v) e q few =
+    let check : isCheck (v .status) ≡ true = not-false (isCheck (v .status)) e in
+    let u = restatus (confirmedStatus c d) v in
+    let within : i < length vs = omega (arith, q .within) in
+    record {
+      at = i;
+      named = q .found;
+      check = ap (λ (r : VersionRecord). isCheck (r .status)) (q .here) ∙ check;
+      restates =
+          rw check
+          (record {
+            within = within;
+            there = getD-set-same vs i u emptyVersion within ∙ ap (restatus (confirmedStatus c d)) (sym (q .here));
+            others = λ j ne. getD-set-other vs i j u emptyVersion ne;
+            size = length-set vs i u;
+          });
+    }
+
 -- an accepted positive one changes exactly one version's
 pub notice-one : (w : Worked) (n : Lengths) (p x d : ℕ) → Passed (rules (viewBy w) n (notices p x 1 d))
     → Confirms p x (confirmedStatus (w .opening .clearing .0) d) (w .versions) (after (telling n (notices p x 1 d)) w .versions)
-unfolding notCheck after fold
-notice-one w n p x d P = go (held p x (w .versions)) (past 25 (rules (viewBy w) n (notices p x 1 d)) P) (held-right p x (w .versions))
-  where
-    go : (h : Held) → notCheck h ≡ false → HeldIn p x (w .versions) (length (w .versions)) h → Confirms p x (confirmedStatus (w .opening .clearing .0) d) (w .versions) (confirm (w .opening .clearing .0) 1 d h (w .versions))
-    go Absent e q = absurd (true≢false e)
-    go (Has i v) e q =
-        let check : isCheck (v .status) ≡ true = not-false (isCheck (v .status)) e in
-        let u = restatus (confirmedStatus (w .opening .clearing .0) d) v in
-        record {
-          at = i;
-          named = q .found;
-          check = ap (λ (r : VersionRecord). isCheck (r .status)) (q .here) ∙ check;
-          restates =
-              rw check
-              (record {
-                within = q .within;
-                there = getD-set-same (w .versions) i u emptyVersion (q .within) ∙ ap (restatus (confirmedStatus (w .opening .clearing .0) d)) (sym (q .here));
-                others = λ j ne. getD-set-other (w .versions) i j u emptyVersion ne;
-                size = length-set (w .versions) i u;
-              });
-        }
+unfolding after fold
+notice-one w n p x d P =
+    confirmed (w .opening .clearing .0) p x d (length (w .versions)) (w .versions) (held p x (w .versions)) (past 25 (rules (viewBy w) n (notices p x 1 d)) P) (held-right p x (w .versions)) (omega arith)
 
 -- ---- "Run 1: each selected version gets 3. Run 2: each own one gets 5."
 

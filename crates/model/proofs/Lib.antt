@@ -12,6 +12,7 @@ pub mod Corollaries
 pub mod Deliveries
 pub mod Demands
 pub mod Deviations
+pub mod Effects
 pub mod Ends
 pub mod Figures
 pub mod Flags

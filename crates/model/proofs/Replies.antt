@@ -1,14 +1,14 @@
 -- What accepted shows, reports and statuses tell, on a running desk in any state and on the plain desk. Assumes nothing.
 use Prim.Native.Nat.{ℕ, _+_, _-_, _≤_, _<_}
 use mathlib.Core.Path.{_≡_, refl, sym, ap, _∙_}
-use mathlib.Core.Bool.{true, false, _&&_, true≢false}
+use mathlib.Core.Bool.{false, _&&_, true≢false}
 use mathlib.Core.List.{List}
 use native.Mathlib.Omega.{arith}
 use borrow.Author.Tests.{eqb-true, eq-eqb, not-false}
 use lib.Dec.{eqb}
 use lib.IntN.{pos}
 use lib.ListN.{length, take, length-take}
-use lib.Seq.{getD-take, take-length}
+use lib.Seq.{getD-take}
 use Rattle.quantity.specs.Limits.{runs, groups, runOk, groupOk}
 use Rattle.quantity.proofs.Tests.{and-left, and-right, and-both, or-left, within-low, within-high}
 use Rattle.book.specs.Place.{groupRow, rowStart}
@@ -80,36 +80,50 @@ numbered Settled = refl
 numbered Correction = refl
 numbered CorrectionSettled = refl
 
--- of a version found among the first records of a table
-tells : (p x count : ℕ) (vs : List VersionRecord) (h : Held) → HeldIn p x (take count vs) (length (take count vs)) h → isAbsent h ≡ false → TellsStatus p x count vs (answerNumber (statusAnswer h))
+-- what is found among the first records of a table stands in the table
+pub held-within : (p x n : ℕ) (vs : List VersionRecord) (h : Held) → HeldIn p x (take n vs) (length (take n vs)) h → HeldIn p x vs (length (take n vs)) h
+held-within p x n vs h q = go h q
+  where
+    same : (j : ℕ) → j < length (take n vs) → recordAt vs j ≡ recordAt (take n vs) j
+    same j l = sym (getD-take n vs j emptyVersion (omega (arith, length-take n vs)))
+
+    go : (h : Held) → HeldIn p x (take n vs) (length (take n vs)) h → HeldIn p x vs (length (take n vs)) h
+    go Absent q = λ j l. ap (isVersion p x) (same j l) ∙ q j l
+    go (Has i v) q =
+        record {
+          within = q .within;
+          found = ap (isVersion p x) (same i (q .within)) ∙ q .found;
+          here = same i (q .within) ∙ q .here;
+          first = λ j l. ap (isVersion p x) (same j (omega (arith, q .within))) ∙ q .first j l;
+        }
+
+-- the version found tells its status
+tells : (p x n count : ℕ) (vs : List VersionRecord) (h : Held) → HeldIn p x vs n h → n ≤ count → isAbsent h ≡ false → TellsStatus p x count vs (answerNumber (statusAnswer h))
 unfolding isAbsent statusAnswer
-tells p x count vs Absent q e = absurd (true≢false e)
-tells p x count vs (Has i v) q e =
-    let within : i < count = omega (arith, q .within, length-take count vs) in
-    let same : (j : ℕ) → j < count → recordAt (take count vs) j ≡ recordAt vs j = λ j l. getD-take count vs j emptyVersion l in
-    let here : recordAt vs i ≡ v = sym (same i within) ∙ q .here in
-    let found : isVersion p x (recordAt vs i) ≡ true = rw (same i within) at (q .found) in
+tells p x n count vs Absent q few e = absurd (true≢false e)
+tells p x n count vs (Has i v) q few e =
     record {
       at = i;
-      within = within;
-      ofPoint = eqb-true (recordAt vs i .point .0) p (and-left (isAt p (recordAt vs i)) _ found);
-      numbered = eqb-true (recordAt vs i .version .0) x (and-right (isAt p (recordAt vs i)) _ found);
-      first =
-          λ j l a b.
-          true≢false (sym (and-both (isAt p (recordAt vs j)) _ (eq-eqb (recordAt vs j .point .0) p a) (eq-eqb (recordAt vs j .version .0) x b)) ∙ ap (isVersion p x) (sym (same j (omega arith))) ∙ q .first j l);
-      number = rw here (numbered (v .status));
+      within = omega (arith, q .within);
+      ofPoint = eqb-true (recordAt vs i .point .0) p (and-left (isAt p (recordAt vs i)) _ (q .found));
+      numbered = eqb-true (recordAt vs i .version .0) x (and-right (isAt p (recordAt vs i)) _ (q .found));
+      first = λ j l a b. true≢false (sym (and-both (isAt p (recordAt vs j)) _ (eq-eqb (recordAt vs j .point .0) p a) (eq-eqb (recordAt vs j .version .0) x b)) ∙ q .first j l);
+      number = rw (q .here) (numbered (v .status));
     }
 
 pub status-told : (d : Desk) (s : Stores) (p x : ℕ) → IsAccepted (step d (record { call = asks p x; stores = s }) .answer)
     → TellsStatus p x (d .frame .count) (d .versions) (answerNumber (step d (record { call = asks p x; stores = s }) .answer))
 status-told d s p x ok =
     let l : Lent = record { call = asks p x; stores = s } in
-    rw (is-granted d l ok) (tells p x (d .frame .count) (d .versions) (held p x (versionsIn d)) (held-right p x (versionsIn d)) (past 24 (rules (viewOf d) (lengthsOf s) (asks p x)) (lines-passed d l ok .1)))
+    let n = d .frame .count in
+    rw (is-granted d l ok)
+    (tells p x (length (versionsIn d)) n (d .versions) (held p x (versionsIn d)) (held-within p x n (d .versions) (held p x (versionsIn d)) (held-right p x (versionsIn d))) (omega (arith, length-take n (d .versions)))
+    (past 24 (rules (viewOf d) (lengthsOf s) (asks p x)) (lines-passed d l ok .1)))
 
 pub plain-status-told : (h : List Told) (m : Lengths) (p x : ℕ) → IsAccepted (plainReply h (telling m (asks p x)) .answer)
     → TellsStatus p x (length (versionsOf h)) (versionsOf h) (answerNumber (plainReply h (telling m (asks p x)) .answer))
 unfolding viewIn
 plain-status-told h m p x ok =
     let vs = versionsOf h in
-    let found : HeldIn p x (take (length vs) vs) (length (take (length vs) vs)) (held p x vs) = rw take-length (held-right p x vs) in
-    rw (plain-granted h (telling m (asks p x)) ok) (tells p x (length vs) vs (held p x vs) found (past 24 (rules (viewIn h) m (asks p x)) (plain-passed h (telling m (asks p x)) ok)))
+    rw (plain-granted h (telling m (asks p x)) ok)
+    (tells p x (length vs) (length vs) vs (held p x vs) (held-right p x vs) (omega arith) (past 24 (rules (viewIn h) m (asks p x)) (plain-passed h (telling m (asks p x)) ok)))

@@ -15,6 +15,7 @@ use Rattle.state.specs.Settling.{Settles}
 use Rattle.state.specs.Status.{statusNumber, isCheck}
 use Rattle.state.specs.Version.{recordAt, restatus, isVersion}
 use Rattle.state.specs.declared.DeltaGroups.{DeltaGroups}
+use Rattle.state.specs.declared.Opening.{Opening}
 use Rattle.state.specs.declared.Runs.{Runs}
 use Rattle.state.specs.declared.Selection.{Selection}
 use Rattle.state.specs.declared.Selection.the-variants.{None, Selected}
@@ -165,17 +166,17 @@ pub record SeriesAdds (gs : List ℕ) (k : ℕ) (v : ℤ) : Type 0 where
 -- ---- what an accepted call sets
 
 -- "The opening gives Q, deadlines and store lengths."; document 02: "opening sets both alike"
-pub record Opens (quarters first clearing correction : ℕ) (groups : List ℕ) (n : Lengths) (w : Worked) : Type 0 where
-  pub q : w .opening .quarters ≡ quarters
-  pub f : w .opening .first .0 ≡ first
-  pub c : w .opening .clearing .0 ≡ clearing
-  pub k : w .opening .correction .0 ≡ correction
-  pub values : w .opening .values ≡ n .values
-  pub book : w .opening .book ≡ n .book
-  pub log : w .opening .log ≡ n .log
-  pub schedules : w .opening .schedules ≡ n .schedules
-  pub given1 : w .groups .first ≡ groups
-  pub given2 : w .groups .second ≡ groups
+pub record Opens (quarters first clearing correction : ℕ) (groups : List ℕ) (n : Lengths) (o : Opening) (gs : DeltaGroups) : Type 0 where
+  pub q : o .quarters ≡ quarters
+  pub f : o .first .0 ≡ first
+  pub c : o .clearing .0 ≡ clearing
+  pub k : o .correction .0 ≡ correction
+  pub values : o .values ≡ n .values
+  pub book : o .book ≡ n .book
+  pub log : o .log ≡ n .log
+  pub schedules : o .schedules ≡ n .schedules
+  pub given1 : gs .first ≡ groups
+  pub given2 : gs .second ≡ groups
 
 -- an element of a list is another one, and every other as it was; z is read past the end
 pub record Sets {A : Type 0} (z : A) (at : ℕ) (x : A) (before after : List A) : Type 0 where
@@ -198,6 +199,7 @@ pub record Delivers (point version day : ℕ) (energies : List ℤ) (before afte
   pub status : ((day ≤ before .opening .first .0) × (statusNumber (recordAt (after .versions) (length (before .versions)) .status) ≡ 2))
       ⊎ ((before .opening .first .0 < day) × (statusNumber (recordAt (after .versions) (length (before .versions)) .status) ≡ 1))
   pub others : (j : ℕ) → j < length (before .versions) → recordAt (after .versions) j ≡ recordAt (before .versions) j
+  pub deliveries : length (after .energies) ≡ length (before .energies) + 1
   pub series : getD (after .energies) (length (before .energies)) [] ≡ energies
   pub earlier : (j : ℕ) → j < length (before .energies) → getD (after .energies) j [] ≡ getD (before .energies) j []
 

@@ -1,4 +1,4 @@
--- What each call leaves alone, and what an opening makes of a desk.
+-- What each call leaves alone.
 use Prim.Native.Nat.{ℕ}
 use mathlib.Core.Path.{_≡_}
 use mathlib.Core.Bool.{Bool, true, false, _||_}

@@ -2,6 +2,7 @@ pub mod Agreement
 pub mod Call
 pub mod Causes
 pub mod Demands
+pub mod Effects
 pub mod Laws
 pub mod Leaves
 pub mod Log
