@@ -4,14 +4,12 @@ use mathlib.Core.Bool.{Bool, true, false}
 use mathlib.Core.List.{List, [], _∷_}
 use lib.IntN.{pos}
 use Rattle.quantity.specs.Lists.{fold}
-use Rattle.state.specs.Desk.{versionsIn}
-use Rattle.state.specs.Version.{held}
 use Rattle.state.specs.declared.Desk.{Desk}
 use Rattle.model.specs.Call.{Call, opens, activates, deactivates, submits, notices, assigns, shows, asks, closes, issues, lodges, reports, Stores, Lengths, Lent, Told, told, telling}
 use Rattle.model.specs.Causes.{refusal}
 use Rattle.model.specs.Leaves.{Part, opening, day, points, groups, versions, used, closed, issued, values, book, log, schedules, row, sums, isNamed, may, unless, Leaves, PlainLeaves}
 use Rattle.model.specs.Plain.{viewIn, plainly, granted, answered, joined, plainReply, plainNext, workedOut, after}
-use Rattle.model.specs.Step.{answering, statusAnswer, granting, refusalBy, decided, step}
+use Rattle.model.specs.Step.{answering, granting, refusalBy, decided, step}
 use Rattle.model.specs.declared.Answer.{Answer}
 use Rattle.model.specs.declared.Answer.the-variants.{Refused}
 use Rattle.model.specs.declared.Ruling.{Ruling}
@@ -55,7 +53,7 @@ module _ (d : Desk) (s : Stores) where
   grants-leave (notices p x y e) = record { opening = refl; day = tt; points = refl; groups = refl; count = tt; versions = tt; used = tt; closed = refl; issued = refl; values = refl; book = tt; log = tt; schedules = refl; row = refl; surplus = refl; shortfall = refl }
   grants-leave (assigns a g e) = record { opening = refl; day = tt; points = refl; groups = tt; count = refl; versions = refl; used = refl; closed = refl; issued = refl; values = refl; book = tt; log = refl; schedules = refl; row = refl; surplus = refl; shortfall = refl }
   grants-leave (shows r g) = record { opening = refl; day = refl; points = refl; groups = refl; count = refl; versions = refl; used = refl; closed = refl; issued = refl; values = refl; book = refl; log = refl; schedules = refl; row = tt; surplus = refl; shortfall = refl }
-  grants-leave (asks p x) = unmoved [] (statusAnswer (held p x (versionsIn d)))
+  grants-leave (asks p x) = record { opening = refl; day = refl; points = refl; groups = refl; count = refl; versions = refl; used = refl; closed = refl; issued = refl; values = refl; book = refl; log = refl; schedules = refl; row = refl; surplus = refl; shortfall = refl }
   grants-leave (closes r e) = record { opening = refl; day = tt; points = refl; groups = refl; count = refl; versions = refl; used = refl; closed = tt; issued = refl; values = refl; book = refl; log = refl; schedules = refl; row = refl; surplus = refl; shortfall = refl }
   grants-leave (issues r e) = record { opening = refl; day = tt; points = refl; groups = refl; count = tt; versions = tt; used = refl; closed = refl; issued = tt; values = refl; book = refl; log = refl; schedules = refl; row = refl; surplus = refl; shortfall = refl }
   grants-leave (lodges g e es) = record { opening = refl; day = tt; points = refl; groups = refl; count = refl; versions = refl; used = refl; closed = refl; issued = refl; values = refl; book = refl; log = refl; schedules = tt; row = refl; surplus = refl; shortfall = refl }
