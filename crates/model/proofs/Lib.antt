@@ -48,3 +48,5 @@ pub mod Submit
 pub mod TableDue
 pub mod TableLaw
 pub mod TableWords
+pub mod Takes
+pub mod TakesDesks

@@ -4,6 +4,7 @@ use Prim.Native.Nat.{ℕ, zero, suc, _-_, _≤_, _<_}
 use mathlib.Core.Path.{_≡_, refl, sym, ap, _∙_}
 use mathlib.Core.Bool.{Bool, true, false, cond, not, _&&_, _||_, false≢true}
 use mathlib.Core.List.{List}
+use mathlib.Core.Logic.{inl, inr}
 use native.Mathlib.Omega.{arith}
 use native.Mathlib.Decide.{ℕ-discrete}
 use borrow.Author.Tests.{leb-true, ltb-true, ltb-false, lt-ltb, le-ltb, eqb-true, eq-eqb, ne-eqb}
@@ -18,12 +19,14 @@ use Rattle.quantity.proofs.Lists.{all-at}
 use Rattle.quantity.proofs.Sums.{sum-zero, sum-plus, sum-neg}
 use Rattle.quantity.proofs.Tests.{and-left, and-right, within-high}
 use Rattle.book.specs.Place.{groupRow, deltaRow}
-use Rattle.state.specs.Point.{seriesOk}
+use Rattle.state.specs.Point.{activePoint, seriesOk}
 use Rattle.state.specs.Valid.{stateOk}
+use Rattle.state.specs.Within.{InTable, StateIn}
 use Rattle.state.specs.declared.PointState.{PointState}
 use Rattle.state.specs.declared.PointState.the-variants.{Free, Active}
-use Rattle.model.specs.Laws.{ofDelta, SeriesAdds}
+use Rattle.model.specs.Laws.{ofDelta}
 use Rattle.model.specs.Series.{groupSide, deltaSide, toSide, fromSide, sidesOf, atRow, onSide, adds, isOutside}
+use Rattle.model.specs.Takes.{Line, free, outside, exchange, groupSum, areaSum, groupSumT, transfer}
 use Rattle.model.specs.declared.Side.{Side}
 use Rattle.model.specs.declared.Side.the-variants.{Outside, Group, Delta}
 use Rattle.model.specs.declared.Sides.{Sides}
@@ -75,17 +78,44 @@ module _ (s : Sides) (k : ℕ) where
 
 -- ---- the table of series, line by line: any groups, areas, row and value
 
-pub series-adds : (gs : List ℕ) (k : ℕ) (v : ℤ) → SeriesAdds gs k v
+pub series-adds : {s : PointState} {a o : ℤ} (gs : List ℕ) (k : ℕ) (v : ℤ) → Line gs k v s a o → adds (sidesOf gs s) k v ≡ a
 unfolding sidesOf toSide fromSide onSide adds
-series-adds gs k v =
-    record {
-      outside = λ a. +ℤ-idr (ofDelta gs a k v);
-      exchange = λ a b h. rw (lt-ltb 0 b (omega (arith, h)));
-      groupSum = λ a g. refl;
-      areaSum = λ a. refl;
-      groupSumT = λ g. refl;
-      transfer = λ a. refl;
-    }
+series-adds gs k v free = refl
+series-adds gs k v (outside d a) = +ℤ-idr (ofDelta gs a k v)
+series-adds gs k v (exchange d a b h) = rw (lt-ltb 0 b (omega (arith, h)))
+series-adds gs k v (groupSum d a g) = refl
+series-adds gs k v (areaSum d a) = refl
+series-adds gs k v (groupSumT d g) = refl
+series-adds gs k v (transfer d a) = refl
+
+pub series-outside : {s : PointState} {a o : ℤ} (gs : List ℕ) (k : ℕ) (v : ℤ) → Line gs k v s a o → cond (isOutside s) v (pos 0) ≡ o
+unfolding isOutside
+series-outside gs k v free = refl
+series-outside gs k v (outside d a) = refl
+series-outside gs k v (exchange d a b h) = rw (ne-eqb b 0 (λ z. omega (arith, h)))
+series-outside gs k v (groupSum d a g) = refl
+series-outside gs k v (areaSum d a) = refl
+series-outside gs k v (groupSumT d g) = refl
+series-outside gs k v (transfer d a) = refl
+
+-- every point within its limits has a line
+pub line-of : (gs : List ℕ) (k : ℕ) (v : ℤ) (s : PointState) → StateIn s → (a : ℤ) × (o : ℤ) × Line gs k v s a o
+line-of gs k v Free h = (_, _, free)
+line-of gs k v (Active since kind area partner) h = go (kind .0) (area .0) (partner .0) (h .1)
+  where
+    Lined : (kind area partner : ℕ) → Type 0
+    Lined m a b = (x : ℤ) × (o : ℤ) × Line gs k v (activePoint m a b (since .0) .state) x o
+
+    from : (a b : ℕ) → Lined 1 a b
+    from a zero = (_, _, outside (since .0) a)
+    from a (suc b) = (_, _, exchange (since .0) a (suc b) (omega arith))
+
+    go : (m a b : ℕ) → InTable m a b → Lined m a b
+    go m a b (inl q) = rw (q .0) (from a b)
+    go m a b (inr (inl q)) = rw (q .0) (_, _, groupSum (since .0) a b)
+    go m a b (inr (inr (inl q))) = rw (q .0, q .1 .1) (_, _, areaSum (since .0) a)
+    go m a b (inr (inr (inr (inl q)))) = rw (q .0, q .1 .0) (_, _, groupSumT (since .0) b)
+    go m a b (inr (inr (inr (inr q)))) = rw (q .0, q .1 .1) (_, _, transfer (since .0) a)
 
 -- ---- the sides of a valid point
 

@@ -5,11 +5,10 @@ use mathlib.Core.Bool.{Bool, true, false, cond}
 use mathlib.Core.List.{List, [], _∷_, _++_}
 use mathlib.Core.Logic.{_⊎_}
 use lib.Dec.{eqb}
-use lib.IntN.{ℤ, pos, _+ℤ_, _-ℤ_}
+use lib.IntN.{ℤ, pos, _+ℤ_}
 use lib.ListN.{length, getD}
 use Rattle.quantity.specs.Sum.{sumTo}
 use Rattle.quantity.specs.Word.{word}
-use Rattle.state.specs.Point.{activePoint}
 use Rattle.state.specs.Selection.{own, selected, SameVersion, versionOf}
 use Rattle.state.specs.Settling.{Settles}
 use Rattle.state.specs.Status.{statusNumber, isCheck}
@@ -27,7 +26,6 @@ use Rattle.model.specs.Call.{Call, opens, activates, deactivates, submit
 use Rattle.model.specs.Causes.{Rule}
 use Rattle.model.specs.Log.{logWords}
 use Rattle.model.specs.Plain.{Worked}
-use Rattle.model.specs.Series.{sidesOf, adds}
 use Rattle.model.specs.declared.Answer.{Answer}
 use Rattle.model.specs.declared.Answer.the-variants.{Refused}
 use Rattle.model.specs.declared.Cause.{Cause}
@@ -149,19 +147,6 @@ ofGroup g k v = inRow (g - 1) k v
 -- a delta's, of T (0) or an area: "Each delta is also added to its delta group."
 abbrev pub ofDelta : (groups : List ℕ) (area k : ℕ) → ℤ → ℤ
 ofDelta gs a k v = inRow (64 + a) k v +ℤ ofGroup (getD gs a 0) k v
-
--- what a series of a kind, area and partner adds to row k
-abbrev pub adding : (groups : List ℕ) (kind area partner k : ℕ) → ℤ → ℤ
-adding gs kind a b k v = adds (sidesOf gs (activePoint kind a b 0 .state)) k v
-
--- "adds its value v to", line by line
-pub record SeriesAdds (gs : List ℕ) (k : ℕ) (v : ℤ) : Type 0 where
-  pub outside : (a : ℕ) → adding gs 1 a 0 k v ≡ ofDelta gs a k v
-  pub exchange : (a b : ℕ) → 1 ≤ b → adding gs 1 a b k v ≡ ofDelta gs a k v -ℤ ofDelta gs b k v
-  pub groupSum : (a g : ℕ) → adding gs 2 a g k v ≡ ofGroup g k v -ℤ ofDelta gs a k v
-  pub areaSum : (a : ℕ) → adding gs 3 a 0 k v ≡ ofDelta gs 0 k v -ℤ ofDelta gs a k v
-  pub groupSumT : (g : ℕ) → adding gs 4 0 g k v ≡ ofGroup g k v -ℤ ofDelta gs 0 k v
-  pub transfer : (a : ℕ) → adding gs 5 a 0 k v ≡ ofDelta gs a k v -ℤ ofDelta gs 0 k v
 
 -- ---- what an accepted call sets
 

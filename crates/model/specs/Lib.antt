@@ -13,4 +13,5 @@ pub mod Sample
 pub mod Series
 pub mod Step
 pub mod Table
+pub mod Takes
 pub mod View
