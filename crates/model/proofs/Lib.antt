@@ -9,6 +9,8 @@ pub mod ChangeLaws
 pub mod Changing
 pub mod Closed
 pub mod Corollaries
+pub mod Corrected
+pub mod CorrectedRunning
 pub mod Deliveries
 pub mod Demands
 pub mod Deviations

@@ -20,17 +20,17 @@ use Rattle.model.proofs.Main.{agree}
 use Rattle.model.proofs.Sample.{sample, example, month-quarters, file-quarters}
 
 module _ (s : Stores) (n : Lengths) (e : lengthsOf s ≡ n) (l : List Call) where
-  both : Agree (replies (fresh s) (lend (fresh s) l)) (end (fresh s) (lend (fresh s) l)) (plainReplies [] (map (telling n) l)) (plainEnd [] (map (telling n) l))
+  pub both : Agree (replies (fresh s) (lend (fresh s) l)) (end (fresh s) (lend (fresh s) l)) (plainReplies [] (map (telling n) l)) (plainEnd [] (map (telling n) l))
   both = rw (lend-told s l, e) at (agree s (lend (fresh s) l) (lend-chained (fresh s) l))
 
-  same-answers : runningDesk s .answers l ≡ plainDesk n .answers l
+  pub same-answers : runningDesk s .answers l ≡ plainDesk n .answers l
   same-answers = ap (map (λ (r : Reply). r .answer)) (both .answers)
 
   module _ (q : ℕ) (quarters : openingOf (plainEnd [] (map (telling n) l)) .quarters ≡ q) where
-    same-figure : (run k j : ℕ) → 1 ≤ run → run ≤ runs → k < runRows → j < q → runningDesk s .figures l run k j ≡ plainDesk n .figures l run k j
+    pub same-figure : (run k j : ℕ) → 1 ≤ run → run ≤ runs → k < runRows → j < q → runningDesk s .figures l run k j ≡ plainDesk n .figures l run k j
     same-figure run k j a b c h = both .figures run k j a b c (omega (arith, ap (λ (o : Opening). o .quarters) (both .opening)))
 
-    same-total : (run j : ℕ) → 1 ≤ run → run ≤ runs → j < q → total (runningDesk s) l run j ≡ total (plainDesk n) l run j
+    pub same-total : (run j : ℕ) → 1 ≤ run → run ≤ runs → j < q → total (runningDesk s) l run j ≡ total (plainDesk n) l run j
     same-total run j a b h =
         sum-same groups (λ (g : ℕ). runningDesk s .figures l run (groupRow g) j) (λ (g : ℕ). plainDesk n .figures l run (groupRow g) j) (λ i lo hi. same-figure run (groupRow i) j a b (omega arith) h)
 

@@ -1,6 +1,7 @@
 pub mod Agreement
 pub mod Call
 pub mod Causes
+pub mod Corrected
 pub mod Demands
 pub mod Effects
 pub mod Laws

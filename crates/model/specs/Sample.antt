@@ -3,30 +3,39 @@ use Prim.Native.Nat.{ℕ, _*_}
 use mathlib.Core.Path.{_≡_}
 use mathlib.Core.List.{List, [], _∷_, _++_, map}
 use lib.IntN.{ℤ, pos, negsuc}
-use lib.ListN.{length, getD, replicate}
+use lib.ListN.{length, getD, take, replicate}
 use Rattle.quantity.specs.Limits.{groups, bookRows, scheduleRows}
 use Rattle.quantity.specs.Sum.{sumTo}
 use Rattle.book.specs.Place.{groupRow}
 use Rattle.message.specs.File.{verdictOf, refusalOf, offsetOf}
+use Rattle.state.specs.Desk.{versionsIn}
 use Rattle.state.specs.declared.Status.the-variants.{Check, Settlement, Correction}
 use Rattle.model.specs.Agreement.{replies, end, fresh, bookFigure, lend}
 use Rattle.model.specs.Call.{Call, opens, activates, submits, notices, asks, Stores, Lengths, telling, answerNumber, Reply}
-use Rattle.model.specs.Plain.{plainReplies, plainEnd, figure}
+use Rattle.state.specs.declared.VersionRecord.{VersionRecord}
+use Rattle.model.specs.Log.{logNumbers}
+use Rattle.model.specs.Plain.{plainReplies, plainEnd, versionsOf, logOf, figure}
 use Rattle.model.specs.declared.Answer.{Answer}
 use Rattle.model.specs.declared.Answer.the-variants.{Accepted, HasStatus, Refused}
 use Rattle.model.specs.declared.Cause.the-variants.{BadField, AfterCorrection, TooEarly}
 
--- what a desk says of calls from its opening on: its answer to each, and each figure then
+-- what a desk says of calls from its opening on: its answer to each and the row shown, and then each figure, the log rows and the versions
 pub record Account : Type 0 where
   pub answers : List Call → List Answer
+  pub rows : List Call → List (List ℤ)
   pub figures : List Call → (run k quarter : ℕ) → ℤ
+  pub log : List Call → List ℕ
+  pub versions : List Call → List VersionRecord
 
 -- the plain desk, with stores of these lengths
 abbrev pub plainDesk : Lengths → Account
 plainDesk n =
     record {
       answers = λ l. map (λ (r : Reply). r .answer) (plainReplies [] (map (telling n) l));
+      rows = λ l. map (λ (r : Reply). r .row) (plainReplies [] (map (telling n) l));
       figures = λ l. figure (plainEnd [] (map (telling n) l));
+      log = λ l. logNumbers (logOf (plainEnd [] (map (telling n) l)));
+      versions = λ l. versionsOf (plainEnd [] (map (telling n) l));
     }
 
 -- the running desk, each call lent the stores as the last one left them
@@ -34,7 +43,10 @@ abbrev pub runningDesk : Stores → Account
 runningDesk s =
     record {
       answers = λ l. map (λ (r : Reply). r .answer) (replies (fresh s) (lend (fresh s) l));
+      rows = λ l. map (λ (r : Reply). r .row) (replies (fresh s) (lend (fresh s) l));
       figures = λ l. bookFigure (end (fresh s) (lend (fresh s) l));
+      log = λ l. let r = end (fresh s) (lend (fresh s) l) in take (4 * r .desk .frame .used) (r .stores .log);
+      versions = λ l. versionsIn (end (fresh s) (lend (fresh s) l) .desk);
     }
 
 -- the stores of the desk program: "4,096 values, 162 × Q book, 512 log rows"
