@@ -47,28 +47,33 @@ energy-same es None (Selected t) e j = absurd e
 energy-same es (Selected s) None e j = absurd e
 energy-same es (Selected s) (Selected t) e j = ap (λ (i : ℕ). getD (getD es i []) j (pos 0)) (e .0)
 
+-- one run, whose selections have these series
+pub amend-run : (q run : ℕ) → 1 ≤ run → run ≤ runs → (s : Sides) → InBook (s .to) → InBook (s .from) → (values : List ℕ) (old new : Selection) (a b : ℕ → ℤ)
+    → Holding q values old a → Holding q values new b → (SameRow old new → (j : ℕ) → a j ≡ b j) → (book : List ℕ) (F : Figures) → Booked q book F
+    → Booked q (amendRun run q s old new values book) (λ r m j. F r m j +ℤ cond (eqb run r) (adds s m (b j -ℤ a j)) (pos 0))
+unfolding amendRun
+amend-run q run lo hi s x y values old new a b ha hb same book F B =
+    by-test (λ (l : List ℕ). Booked q l after) (differ old new) _ book
+    (λ e. amend-sides q run lo hi values old new a b ha hb s x y book F B)
+    (λ e. booked-same q book F after (λ r m j _ _ _ _. sym (stays m j (same (differ-not old new e) j) (eqb run r) (F r m j))) B)
+  where
+    after : Figures
+    after = λ r m j. F r m j +ℤ cond (eqb run r) (adds s m (b j -ℤ a j)) (pos 0)
+
+    stays : (m j : ℕ) → a j ≡ b j → (t : Bool) (f : ℤ) → f +ℤ cond t (adds s m (b j -ℤ a j)) (pos 0) ≡ f
+    stays m j e true f = ap (λ (z : ℤ). f +ℤ adds s m (b j -ℤ z)) e ∙ rw (+ℤ-invr (b j), adds-zero s m) (+ℤ-idr f)
+    stays m j e false f = +ℤ-idr f
+
 module _ (q : ℕ) (values : List ℕ) (ws : List VersionRecord) (es : List (List ℤ)) (S : Stored q values ws es) where
   holding : (s : Selection) → Sited ws s → Holding q values s (energy es s)
   unfolding energy
   holding None w = λ j. refl
   holding (Selected r) w = subst (λ (n : ℕ). Reads q values (n * q) (λ (j : ℕ). getD (getD es (r .at) []) j (pos 0))) (w .1) (S .reads (r .at) (w .0))
 
-  -- one run
-  amend-run : (run : ℕ) → 1 ≤ run → run ≤ runs → (s : Sides) → InBook (s .to) → InBook (s .from) → (old new : Selection) → Sited ws old → Sited ws new
+  energies-run : (run : ℕ) → 1 ≤ run → run ≤ runs → (s : Sides) → InBook (s .to) → InBook (s .from) → (old new : Selection) → Sited ws old → Sited ws new
       → (book : List ℕ) (F : Figures) → Booked q book F
       → Booked q (amendRun run q s old new values book) (λ r m j. F r m j +ℤ cond (eqb run r) (adds s m (energy es new j -ℤ energy es old j)) (pos 0))
-  unfolding amendRun
-  amend-run run lo hi s x y old new wo wn book F B =
-      by-test (λ (l : List ℕ). Booked q l after) (differ old new) _ book
-      (λ e. amend-sides q run lo hi values old new (energy es old) (energy es new) (holding old wo) (holding new wn) s x y book F B)
-      (λ e. booked-same q book F after (λ r m j _ _ _ _. sym (stays (differ-not old new e) (eqb run r) (F r m j) m j)) B)
-    where
-      after : Figures
-      after = λ r m j. F r m j +ℤ cond (eqb run r) (adds s m (energy es new j -ℤ energy es old j)) (pos 0)
-
-      stays : SameRow old new → (t : Bool) (f : ℤ) (m j : ℕ) → f +ℤ cond t (adds s m (energy es new j -ℤ energy es old j)) (pos 0) ≡ f
-      stays e true f m j = ap (λ (z : ℤ). f +ℤ adds s m (energy es new j -ℤ z)) (energy-same es old new e j) ∙ rw (+ℤ-invr (energy es new j), adds-zero s m) (+ℤ-idr f)
-      stays e false f m j = +ℤ-idr f
+  energies-run run lo hi s x y old new wo wn = amend-run q run lo hi s x y values old new (energy es old) (energy es new) (holding old wo) (holding new wn) (energy-same es old new)
 
   -- both runs, at a point whose versions changed
   pub follow : (ps : List PointRecord) (gs : DeltaGroups) → all pointRecordOk ps ≡ true → deltasOk gs ≡ true → (p : ℕ) → 1 ≤ p → p ≤ points → (vs : List VersionRecord) → length vs ≤ length ws
@@ -77,8 +82,8 @@ module _ (q : ℕ) (values : List ℕ) (ws : List VersionRecord) (es : List (Lis
   unfolding amended
   follow ps gs inP inG p lo hi vs few rows e book B =
       booked-same q _ _ (figureOf ps gs ws es) (λ r m j a b _ _. both r m j a b (ℕ-discrete r 1))
-      (amend-run 2 (omega arith) (omega arith) (s 2) (x 2) (y 2) (selected 2 p vs) (selected 2 p ws) (before 2) (selected-sited 2 p ws) _ _
-      (amend-run 1 (omega arith) (omega arith) (s 1) (x 1) (y 1) (selected 1 p vs) (selected 1 p ws) (before 1) (selected-sited 1 p ws) book (figureOf ps gs vs es) B))
+      (energies-run 2 (omega arith) (omega arith) (s 2) (x 2) (y 2) (selected 2 p vs) (selected 2 p ws) (before 2) (selected-sited 2 p ws) _ _
+      (energies-run 1 (omega arith) (omega arith) (s 1) (x 1) (y 1) (selected 1 p vs) (selected 1 p ws) (before 1) (selected-sited 1 p ws) book (figureOf ps gs vs es) B))
     where
       s : (run : ℕ) → Sides
       s run = sidesOf (groupsIn run gs) (pointAt ps p)

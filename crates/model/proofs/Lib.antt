@@ -1,6 +1,7 @@
 pub mod Accepting
 pub mod Afterwards
 pub mod Amends
+pub mod AmendsTaken
 pub mod Assign
 pub mod Books
 pub mod CauseLaws

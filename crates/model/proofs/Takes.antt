@@ -92,7 +92,7 @@ module _ (run low high : ℕ) (counting : (s : Status) → counts run s ≡ (eqb
         go (Selected r) h e = top (r .at) (own-top r h) e
 
 -- what is read of a selection, and 0 without one
-abbrev readBy : (reads : ℕ → ℤ) → Selection → ℤ
+abbrev pub readBy : (reads : ℕ → ℤ) → Selection → ℤ
 readBy reads None = pos 0
 readBy reads (Selected r) = reads (r .at)
 
@@ -152,18 +152,19 @@ unfolding energy
 reads-energy es q None = refl
 reads-energy es q (Selected r) = refl
 
+-- "Points are 1 to 256": point p is the p-th record
+pub point-at : (ps : List PointRecord) (p : ℕ) → 1 ≤ p → pointAt ps p ≡ getD ps (p - 1) freePoint .state
+point-at ps zero lo = absurd (omega arith)
+point-at ps (suc p) lo = ap (λ (i : ℕ). getD ps i freePoint .state) (omega arith)
+
 -- the sums over the points, where x is what is taken of each
 summed : (ps : List PointRecord) (gs : List ℕ) (k : ℕ) (e x : ℕ → ℤ) → ((p : ℕ) → 1 ≤ p → p ≤ 256 → e p ≡ x p)
     → IsSum ps gs k e (sumTo 256 (λ (p : ℕ). adds (sidesOf gs (pointAt ps p)) k (x p))) (sumTo 256 (λ (p : ℕ). cond (isOutside (pointAt ps p)) (x p) (pos 0)))
 summed ps gs k e x same =
     record {
-      figures = λ a. sum-same 256 _ (a .row) (λ p lo hi. rw (here p lo, ← same p lo hi) (series-adds gs k (e p) (a .lines p lo hi)));
-      outsides = λ a. sum-same 256 _ (a .outside) (λ p lo hi. rw (here p lo, ← same p lo hi) (series-outside gs k (e p) (a .lines p lo hi)));
+      figures = λ a. sum-same 256 _ (a .row) (λ p lo hi. rw (point-at ps p lo, ← same p lo hi) (series-adds gs k (e p) (a .lines p lo hi)));
+      outsides = λ a. sum-same 256 _ (a .outside) (λ p lo hi. rw (point-at ps p lo, ← same p lo hi) (series-outside gs k (e p) (a .lines p lo hi)));
     }
-  where
-    here : (p : ℕ) → 1 ≤ p → pointAt ps p ≡ getD ps (p - 1) freePoint .state
-    here zero lo = absurd (omega arith)
-    here (suc p) lo = ap (λ (i : ℕ). getD ps i freePoint .state) (omega arith)
 
 pub figured : (ps : List PointRecord) (gs : DeltaGroups) (vs : List VersionRecord) (es : List (List ℤ)) (quarters : ℕ) → Figured ps gs vs quarters (inList es) (figureOf ps gs vs es) (outsideOf ps vs es)
 unfolding figureOf outsideOf

@@ -1,24 +1,28 @@
 -- What a run takes of each point and what it comes to in each figure, in document 01's words and numbers: what judges figures and the outside exchange, of
 -- any points, delta groups, versions and energies.
-use Prim.Native.Nat.{ℕ, _+_, _-_, _*_, _≤_, _<_}
+use Prim.Native.Nat.{ℕ, _+_, _-_, _*_, _^_, _≤_, _<_}
 use mathlib.Core.Path.{_≡_}
 use mathlib.Core.List.{List, []}
 use mathlib.Core.Logic.{_⊎_}
-use lib.IntN.{ℤ, pos, _-ℤ_}
+use lib.IntN.{ℤ, pos, _+ℤ_, _-ℤ_}
 use lib.ListN.{length, getD}
 use Rattle.quantity.specs.Sum.{sumTo}
-use Rattle.quantity.specs.Word.{signed}
+use Rattle.quantity.specs.Word.{word, signed}
 use Rattle.state.specs.Desk.{versionsIn}
 use Rattle.state.specs.Point.{freePoint, activePoint}
 use Rattle.state.specs.Status.{statusNumber}
 use Rattle.state.specs.Version.{recordAt}
 use Rattle.state.specs.declared.DeltaGroups.{DeltaGroups}
+use Rattle.state.specs.declared.Desk.{Desk}
 use Rattle.state.specs.declared.PointRecord.{PointRecord}
 use Rattle.state.specs.declared.PointState.{PointState}
 use Rattle.state.specs.declared.PointState.the-variants.{Free}
 use Rattle.state.specs.declared.VersionRecord.{VersionRecord}
 use Rattle.model.specs.Agreement.{Running}
+use Rattle.model.specs.Call.{Call, Stores}
 use Rattle.model.specs.Laws.{ofGroup, ofDelta}
+use Rattle.model.specs.Step.{step}
+use Rattle.model.specs.declared.Answer.the-variants.{Accepted}
 
 -- ---- what a run takes of a point
 
@@ -88,9 +92,13 @@ pub record Figured (ps : List PointRecord) (gs : DeltaGroups) (vs : List Version
 abbrev pub inList : List (List ℤ) → (quarter index : ℕ) → ℤ
 inList es q i = getD (getD es i []) q (pos 0)
 
--- "row i begins at i × Q": a version's row of the running desk's values
+-- "row i begins at i × Q": a version's row of values
+abbrev pub inRows : (quarters : ℕ) (values : List ℕ) → List VersionRecord → (quarter index : ℕ) → ℤ
+inRows n values vs q i = signed (getD values (recordAt vs i .row .0 * n + q) 0)
+
+-- the same of the running desk
 abbrev pub inValues : Running → (quarter index : ℕ) → ℤ
-inValues r q i = let n = r .desk .frame .opening .quarters in signed (getD (r .stores .values) (recordAt (versionsIn (r .desk)) i .row .0 * n + q) 0)
+inValues r = inRows (r .desk .frame .opening .quarters) (r .stores .values) (versionsIn (r .desk))
 
 -- "Book: run r, row k, quarter q at index ((r-1) × 81 + k) × Q + q-1."
 abbrev pub inBook : Running → (run k quarter : ℕ) → ℤ
@@ -99,3 +107,29 @@ inBook r run k q = let n = r .desk .frame .opening .quarters in signed (getD (r 
 -- the sum of its 64 groups
 abbrev pub totalIn : Running → (run quarter : ℕ) → ℤ
 totalIn r run q = sumTo 64 (λ (g : ℕ). inBook r run (g - 1) q)
+
+-- ---- what a change of a point's versions makes of the book, on a desk in any state
+
+-- a store holds words
+abbrev pub Words : List ℕ → Type 0
+Words l = (i : ℕ) → getD l i 0 < 2 ^ 64
+
+-- a number of row k follows what is taken of a point: the old line out of it, the new one in; "sums wrap at 64 bits"
+abbrev pub Follows : (groups : List ℕ) → PointState → (k : ℕ) (old new : ℤ) (before after : ℕ) → Type 0
+Follows gs s k old new before after =
+    (x y o u : ℤ) → Line gs k old s x o → Line gs k new s y u → after ≡ word (signed before +ℤ (y -ℤ x))
+
+-- each number of the book of Q quarter hours, by what its run takes of point p of the versions before and after, both read from the values as they are then
+pub record Amends (q : ℕ) (gs : DeltaGroups) (s : PointState) (p : ℕ) (vs ws : List VersionRecord) (values before after : List ℕ) : Type 0 where
+  pub first : (k j : ℕ) → k < 81 → j < q → (old new : ℤ) → TakesFirst vs (inRows q values vs j) p old → TakesFirst ws (inRows q values ws j) p new
+      → Follows (gs .first) s k old new (getD before (k * q + j) 0) (getD after (k * q + j) 0)
+  pub second : (k j : ℕ) → k < 81 → j < q → (old new : ℤ) → TakesSecond vs (inRows q values vs j) p old → TakesSecond ws (inRows q values ws j) p new
+      → Follows (gs .second) s k old new (getD before ((81 + k) * q + j) 0) (getD after ((81 + k) * q + j) 0)
+  pub size : length after ≡ length before
+
+-- an accepted call makes that of the book for a point, whatever desk and stores of words: "a version table of 512"
+abbrev pub AmendsBook : Desk → Stores → (point : ℕ) → Call → Type 0
+AmendsBook d s p c =
+    let o = step d (record { call = c; stores = s }) in
+    length (d .versions) ≡ 512 → Words (s .values) → Words (s .book) → o .answer ≡ Accepted
+    → Amends (d .frame .opening .quarters) (d .frame .groups) (getD (d .points) (p - 1) freePoint .state) p (versionsIn d) (versionsIn (o .desk)) (o .stores .values) (s .book) (o .stores .book)
