@@ -1,7 +1,9 @@
+pub mod Answers
 pub mod Blocks
 pub mod Bytes
 pub mod ByKind
 pub mod Calls
+pub mod Carrying
 pub mod Energies
 pub mod Fields
 pub mod Files

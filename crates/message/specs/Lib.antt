@@ -8,3 +8,4 @@ pub mod Read
 pub mod Offset
 pub mod Named
 pub mod Series
+pub mod Laws
