@@ -1,3 +1,4 @@
+pub mod Answers
 pub mod Padding
 pub mod Theorems
 pub mod WriterSteps

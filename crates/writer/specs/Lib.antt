@@ -1,3 +1,4 @@
 pub mod Fields
 pub mod Filed
+pub mod Laws
 pub mod Writer
