@@ -9,6 +9,7 @@ pub mod Over
 pub mod Parts
 pub mod Reached
 pub mod Runs
+pub mod Said
 pub mod Sendings
 pub mod Steps
 pub mod Whole

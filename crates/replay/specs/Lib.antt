@@ -3,3 +3,4 @@ pub mod Given
 pub mod Play
 pub mod Replay
 pub mod Run
+pub mod Said
