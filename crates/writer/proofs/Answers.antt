@@ -1,7 +1,7 @@
 -- The writer's answers by the papers' numbers, for any kind, fields, series and output: which one is given where, and the output after it. Assumes nothing.
 use Prim.Native.Nat.{ℕ, suc, _+_, _^_, _<_}
 use mathlib.Core.Path.{_≡_, refl, sym, _∙_}
-use mathlib.Core.Bool.{Bool, true, false, cond, false≢true, _&&_}
+use mathlib.Core.Bool.{Bool, true, false, false≢true, _&&_}
 use mathlib.Core.List.{List, [], _∷_, map}
 use native.Mathlib.Omega.{arith}
 use native.Mathlib.Decide.{ℕ-discrete}
@@ -17,14 +17,11 @@ use Rattle.message.specs.Call.{Sent, submission, fieldsOf, isKind, print, tailS
 use Rattle.message.specs.Energy.{fitsEnergy}
 use Rattle.message.specs.Laws.{series, nothing}
 use Rattle.message.specs.Number.{fitsNumber}
-use Rattle.message.specs.declared.FileCause.the-variants.{BadKind, TooLarge, NoRoom}
 use Rattle.message.proofs.Calls.{fields-few}
 use Rattle.message.proofs.Carrying.{means-numbers, means-energy, has-fields}
 use Rattle.message.proofs.Fields.{eight-kinds}
 use Rattle.writer.specs.Laws.{Large, field, many, energy, Bytes, bytes, Writes, unknown, large, short, written}
-use Rattle.writer.specs.Writer.{energiesFor, handed, notWritten, writtenIn, outputAfter}
-use Rattle.writer.specs.declared.Written.{Written}
-use Rattle.writer.specs.declared.Written.the-variants.{Length}
+use Rattle.writer.specs.Writer.{energiesFor, handed, writtenIn, outputAfter}
 
 -- an element of a list that fails a test
 record Fails {A : Type 0} (f : A → Bool) (z : A) (l : List A) : Type 0 where
@@ -105,15 +102,14 @@ module _ (k : ℕ) (fields ws : List ℕ) (full : length fields ≡ 21) where
       c = handed k fields ws
 
       go : (a b d : Bool) → isKind k ≡ a → small c ≡ b → ltb (length output) (length (print c)) ≡ d →
-          let w : Written = cond a (cond b (cond d (notWritten NoRoom) (Length (length (print c)))) (notWritten TooLarge)) (notWritten BadKind) in
-          Writes k fields ws output w (outputAfter w c output)
-      go false b d x y z = unknown refl (λ w. false≢true (sym x ∙ eight-kinds k .1 w))
-      go true false d x y z = large refl (has-fields k x) (by (all fitsNumber (take n fields)) refl y)
+          Writes k fields ws output (writtenIn (length output) c) (outputAfter (writtenIn (length output) c) c output)
+      go false b d x y z = rw x (unknown refl (λ w. false≢true (sym x ∙ eight-kinds k .1 w)))
+      go true false d x y z = rw (x, y) (large refl (has-fields k x) (by (all fitsNumber (take n fields)) refl y))
         where
           by : (t : Bool) → all fitsNumber (take n fields) ≡ t → (t && tailSmall (energiesFor k ws)) ≡ false → Large k n fields ws
           by true p q = large-tail q
           by false p q = large-field p
-      go true true true x y z = short refl (has-fields k x) (not-large y) call-bytes (ltb-true (length output) (length (print c)) z)
+      go true true true x y z = rw (x, y, z) (short refl (has-fields k x) (not-large y) call-bytes (ltb-true (length output) (length (print c)) z))
       go true true false x y z =
           let start : 0 + length (print c) ≡ length (print c) = omega arith in
-          rw start (written (has-fields k x) (not-large y) call-bytes (ltb-false (length output) (length (print c)) z))
+          rw (x, y, z, start) (written (has-fields k x) (not-large y) call-bytes (ltb-false (length output) (length (print c)) z))
