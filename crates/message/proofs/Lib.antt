@@ -5,6 +5,7 @@ pub mod ByKind
 pub mod Calls
 pub mod Carrying
 pub mod Energies
+pub mod Exactly
 pub mod Fields
 pub mod Files
 pub mod FileSteps
