@@ -1,4 +1,5 @@
 pub mod Answers
+pub mod OneAnswer
 pub mod Padding
 pub mod Theorems
 pub mod WriterSteps
