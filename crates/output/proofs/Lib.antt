@@ -7,4 +7,5 @@ pub mod Main
 pub mod Outside
 pub mod Printed
 pub mod Prints
+pub mod Said
 pub mod Totals
