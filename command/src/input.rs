@@ -10,6 +10,7 @@ use crate::arguments::Wanted;
 use crate::calendar;
 use crate::calls::{Call, Place};
 use crate::library;
+use crate::lines;
 use crate::output::{self, words, Failure};
 use crate::text;
 
@@ -21,6 +22,8 @@ pub struct Month {
     pub settled: Option<calendar::Month>,
     pub file: Vec<u8>,
     pub calls: Vec<Call>,
+    /// The files of the text's series.
+    pub series: Vec<PathBuf>,
 }
 
 /// The bytes of a file, of a named pipe, or of standard input for `-`.
@@ -110,7 +113,8 @@ pub fn text(name: &OsStr, what: &str) -> Result<Vec<u8>, Failure> {
 pub fn packed(wanted: &Wanted, bytes: &[u8]) -> Result<Month, Failure> {
     let name = &wanted.file;
     unmarked(name, bytes)?;
-    let packed = text::packed(bytes, &folder(name), wanted.month);
+    let folder = folder(name);
+    let packed = text::packed(bytes, &folder, wanted.month);
     let packed = packed.map_err(|complaints| wrong(name, &complaints))?;
     Ok(Month {
         name: shown(name).into_owned(),
@@ -118,6 +122,7 @@ pub fn packed(wanted: &Wanted, bytes: &[u8]) -> Result<Month, Failure> {
         settled: packed.month,
         file: packed.file,
         calls: packed.calls,
+        series: lines::files(bytes, &folder),
     })
 }
 
@@ -161,5 +166,6 @@ pub fn month(wanted: &Wanted) -> Result<Month, Failure> {
         settled: wanted.month,
         file: bytes,
         calls,
+        series: Vec::new(),
     })
 }

@@ -1,7 +1,10 @@
 //! Lines of a text: the words in front of a comment, fields by name, and what is wrong with each bad line.
 
+use std::path::{Path, PathBuf};
+
 use crate::calls::DELTAS;
 use crate::numbers::{quoted, Unit};
+use crate::series;
 
 /// A line's fields by name, each once.
 pub struct Given<'a> {
@@ -95,6 +98,16 @@ fn words_of(line: &[u8]) -> Result<Vec<&str>, String> {
         .split([' ', '\t'])
         .filter(|word| !word.is_empty())
         .collect())
+}
+
+/// The files of a text's series, looked up in a folder.
+pub fn files(text: &[u8], folder: &Path) -> Vec<PathBuf> {
+    let lines = text.split(|byte| *byte == b'\n');
+    let words = lines.filter_map(|line| words_of(line).ok()).flatten();
+    let sources = words.filter_map(|word| word.strip_prefix("energies=@"));
+    sources
+        .map(|source| folder.join(series::parts(source).0))
+        .collect()
 }
 
 /// The carriage returns of a text, told at the first.

@@ -10,6 +10,7 @@ mod days;
 mod deltas;
 mod deviation;
 mod entries;
+mod guard;
 mod help;
 mod input;
 mod library;

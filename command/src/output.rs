@@ -1,6 +1,5 @@
 //! What the program writes: standard output, a file whole or not at all, complaints on standard error.
 
-use std::ffi::OsString;
 use std::fs::{self, File, OpenOptions};
 use std::io::{self, ErrorKind, IsTerminal, Write};
 use std::path::Path;
@@ -136,12 +135,4 @@ pub fn write_file(path: &Path, bytes: &[u8]) -> Result<(), Failure> {
         let _ = fs::remove_file(&neighbour);
         refused(error)
     })
-}
-
-/// The bytes to the file that is asked for, or to standard output.
-pub fn deliver(to: &Option<OsString>, bytes: &[u8]) -> Result<(), Failure> {
-    match to {
-        Some(name) => write_file(Path::new(name), bytes),
-        None => write(bytes),
-    }
 }

@@ -4,11 +4,13 @@ use crate::arguments::Wanted;
 use crate::calls::{name_in, yes, OPEN, SERIES, STATUSES};
 use crate::deltas;
 use crate::deviation;
+use crate::guard;
 use crate::library::{Point, Replay, Version, GROUPS};
 use crate::month::{self, Ran};
-use crate::output::{self, Failure};
+use crate::output::Failure;
 use crate::refusals;
 use crate::report::{self, Reports};
+use crate::schedules;
 use crate::selections;
 use crate::sheet::json_word;
 use crate::summary::{changes, grouped, headline};
@@ -371,15 +373,24 @@ pub fn filled(form: &str, texts: &[(&str, String)]) -> String {
 /// `desk page`.
 pub fn write(wanted: &Wanted) -> Result<i32, Failure> {
     let mut ran = month::run(wanted)?;
-    // There is nothing to report on where the desk is not open.
-    let schedules = wanted.schedules.as_deref();
-    let reports = match schedules.filter(|_| ran.replay.quarters > 0) {
+    let mut series = ran.month.series.clone();
+    let reports = match wanted.schedules.as_deref() {
+        // There is nothing to report on where the desk is not open.
+        Some(name) if ran.replay.quarters == 0 => {
+            series.extend(schedules::series_of(name)?);
+            None
+        }
         Some(name) => Some(report::of(&mut ran, name)?),
         None => None,
     };
+    series.extend(
+        reports
+            .iter()
+            .flat_map(|reports| reports.schedules.series.clone()),
+    );
     let page = page(&ran, reports.as_ref());
     ran.warn();
     let status = reports.map_or(ran.status(), |reports| reports.judged(&ran));
-    output::deliver(&wanted.to, page.as_bytes())?;
+    guard::deliver(wanted, &series, page.as_bytes())?;
     Ok(status)
 }

@@ -1,6 +1,7 @@
 //! Schedules as text: a line a group with what it planned to take. A group that is lodged again has the later schedule, and one that never is has 0.
 
 use std::ffi::OsStr;
+use std::path::PathBuf;
 
 use crate::input;
 use crate::library::GROUPS;
@@ -12,6 +13,8 @@ use crate::series::Files;
 /// The schedules of a month, by group.
 pub struct Schedules {
     pub name: String,
+    /// The files of the text's series.
+    pub series: Vec<PathBuf>,
     lodged: [Option<Vec<u64>>; GROUPS as usize],
 }
 
@@ -49,14 +52,25 @@ fn lodging(words: &[&str], quarters: usize, files: &mut Files) -> Result<(u64, V
     Ok((group, energies))
 }
 
+fn text_of(name: &OsStr) -> Result<Vec<u8>, Failure> {
+    input::text(name, "schedules are lines `lodge group=N energies=..`")
+}
+
+/// The files of a text's series, whatever else it has.
+pub fn series_of(name: &OsStr) -> Result<Vec<PathBuf>, Failure> {
+    Ok(lines::files(&text_of(name)?, &input::folder(name)))
+}
+
 /// The schedules of a text, for a month of so many quarter hours; every bad line is named at once.
 pub fn read(name: &OsStr, quarters: usize) -> Result<Schedules, Failure> {
-    let text = input::text(name, "schedules are lines `lodge group=N energies=..`")?;
+    let text = text_of(name)?;
+    let folder = input::folder(name);
     let mut schedules = Schedules {
         name: input::shown(name).into_owned(),
+        series: lines::files(&text, &folder),
         lodged: [const { None }; GROUPS as usize],
     };
-    let mut files = Files::new(&input::folder(name));
+    let mut files = Files::new(&folder);
     let complaints = lines::each(&text, |_, words| {
         if words.is_empty() {
             return Ok(());

@@ -167,6 +167,14 @@ fn energies_of(cells: Cells, unit: Unit, limits: Limits) -> Result<Vec<u64>, Str
     Err(format!("line {line}: {first}{rest}"))
 }
 
+/// A file's name, and the column that stands behind it.
+pub fn parts(source: &str) -> (&str, Option<&str>) {
+    match source.rsplit_once(':') {
+        Some((name, column)) => (name, Some(column)),
+        None => (source, None),
+    }
+}
+
 impl Files {
     pub fn new(folder: &Path) -> Files {
         Files {
@@ -210,9 +218,9 @@ impl Files {
         unit: Unit,
         limits: Limits,
     ) -> Result<Vec<u64>, String> {
-        let (name, cells) = match source.rsplit_once(':') {
-            Some((name, column)) => (name, self.column(name, column)),
-            None => (source, self.numbers(source)),
+        let (name, cells) = match parts(source) {
+            (name, Some(column)) => (name, self.column(name, column)),
+            (name, None) => (name, self.numbers(name)),
         };
         if name.is_empty() {
             return Err(format!(

@@ -12,7 +12,7 @@ use crate::lines::{self, unit_of, Given};
 use crate::numbers::{self, quoted, shortened, Limits};
 use crate::output::{self, Failure};
 use crate::series::Files;
-use crate::{causes, input, ACCEPTED, NOTHING, REFUSED};
+use crate::{causes, guard, input, ACCEPTED, NOTHING, REFUSED};
 
 /// The numbers of the fields named, each by a date, by its name or in digits.
 fn numbers_of<'a>(
@@ -187,7 +187,7 @@ pub fn pack(wanted: &Wanted) -> Result<i32, Failure> {
     if month.calls.is_empty() {
         output::warn(&format!("{shown}: has no calls; the message file is empty"));
     }
-    output::deliver(&wanted.to, &month.file)?;
+    guard::deliver(wanted, &month.series, &month.file)?;
     Ok(ACCEPTED)
 }
 
@@ -215,11 +215,11 @@ fn line_of(call: &Call, reader: &Reader, month: Option<Month>) -> String {
 /// `desk print`.
 pub fn print(wanted: &Wanted) -> Result<i32, Failure> {
     let bytes = input::read(&wanted.file)?;
-    let (file, month) = if input::is_text(&bytes) {
+    let (file, month, series) = if input::is_text(&bytes) {
         let month = input::packed(wanted, &bytes)?;
-        (month.file, month.settled)
+        (month.file, month.settled, month.series)
     } else {
-        (bytes, wanted.month)
+        (bytes, wanted.month, Vec::new())
     };
     let named = month.map_or(String::new(), |month| format!("month {month}\n"));
     let mut reader = Reader::new(&file);
@@ -250,6 +250,6 @@ pub fn print(wanted: &Wanted) -> Result<i32, Failure> {
             input::shown(&wanted.file)
         ));
     }
-    output::deliver(&wanted.to, (named + &text).as_bytes())?;
+    guard::deliver(wanted, &series, (named + &text).as_bytes())?;
     Ok(status)
 }
