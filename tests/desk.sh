@@ -418,7 +418,7 @@ run 1 is issued: 2 of 2 selected versions settled
 run 2 is not closed: 1 of 2 selected versions settled; 1 its own, 1 as run 1
 
 point  series                        settled  run 1       run 2                          other versions
-    1  exchange area 1 with outside  run 1    7 settled   as run 1                       5 settlement data
+    1  exchange area 1 with outside  both     7 settled   as run 1                       5 settlement data
     2  group-sum area 1 group 5      run 1    10 settled  11 correction settlement data
 END
     picks "$file"
@@ -493,7 +493,7 @@ run 1 is issued: 2 of 2 selected versions settled; 3 points have none
 run 2 is not closed: 1 of 3 selected versions settled; 2 its own, 1 as run 1; 2 points have none
 
 point  series                         settled  run 1                   run 2                         other versions
-    1  exchange area 1 with outside   run 1    20260804120001 settled  as run 1                      check data (1), settlement data (1)
+    1  exchange area 1 with outside   both     20260804120001 settled  as run 1                      check data (1), settlement data (1)
     2  group-sum area 1 group 5       run 1    1 settled               2 correction settlement data
     3  operator-sum group 6           no       none                    7 correction settlement data
     4  delta-transfer area 16         -        none                    none
@@ -640,13 +640,13 @@ kinds_of_files() {
     holds 'its runs' cmp <(./desk runs "$work/old.msg" --csv | cut -d, -f 1-3,5,8-) <(printf '%s\n' run,closed,closed_day,issued,selected,settled 1,yes,40,no,2,0 2,yes,151,no,3,0)
     has 'a file of kinds 7 and 8' 0 '^19 calls, none refused; day 152; runs 1 and 2 issued; 2 quarter hours$' ./desk run "$work/new.msg"
     expect 'print: kinds 7 and 8' 0 sh -c "./desk print '$work/new.msg' | tail -n 4 | sed 's/  #.*//'" <<END
-close run=1 day=40
-close run=2 day=151
-issue run=2 day=151
-issue run=1 day=152
+close run=settlement day=40
+close run=correction day=151
+issue run=correction day=151
+issue run=settlement day=152
 END
     expect 'print: a file that begins with kind 8' 0 sh -c "printf '\\10\\1\\37' | ./desk print -" <<END
-issue run=1 day=31  # offset 0
+issue run=settlement day=31  # offset 0
 END
     holds 'pack of print: kinds 7 and 8' sh -c "./desk print '$work/new.msg' | ./desk pack - | cmp - '$work/new.msg'"
     for kind in 0 11 12; do
@@ -752,6 +752,7 @@ END
 END
     expect 'log: a group without a sum' 0 ./desk log "$file" --group 1 --csv <<END
 row,day,date,point,run,version
+! desk: $file: deltas are booked to group 1 (area 1); the points behind them are not listed here, and \`desk deltas\` has the deltas
 END
     expect 'points: one group' 0 ./desk points "$file" --group 5 --csv <<END
 point,kind,area,partner,since,since_date,version,status,run_1,run_2,settled
@@ -853,10 +854,10 @@ run 1 is issued: 4 of 4 selected versions settled
 run 2 is not closed: 4 of 4 selected versions settled; 0 its own, 4 as run 1
 
 point  series                        settled  run 1      run 2     other versions
-    1  exchange area 1 with outside  run 1    1 settled  as run 1
-    2  exchange area 2 with area 1   run 1    1 settled  as run 1
-    3  group-sum area 2 group 5      run 1    1 settled  as run 1
-    4  area-sum area 1               run 1    1 settled  as run 1
+    1  exchange area 1 with outside  both     1 settled  as run 1
+    2  exchange area 2 with area 1   both     1 settled  as run 1
+    3  group-sum area 2 group 5      both     1 settled  as run 1
+    4  area-sum area 1               both     1 settled  as run 1
 END
 }
 
@@ -1841,10 +1842,10 @@ dates_and_back() {
     done
     expect 'print: days as dates, other numbers as they are' 0 sh -c "./desk print --month 2059-11 '$work/numbers.msg' | sed 's/  #.*//' | sed -n '1,2p; 20,22p; 406,\$p'" <<END
 month 2059-11
-close run=1 day=2059-11-30
-close run=1 day=2059-12-29
-close run=1 day=2059-12-30
-close run=1 day=20
+close run=settlement day=2059-11-30
+close run=settlement day=2059-12-29
+close run=settlement day=2059-12-30
+close run=settlement day=20
 open quarters=18 first=2059-12-01 clearing=20 correction=400 T=17 1=16 2=16 3=16 4=16 5=16 6=16 7=16 8=16 9=16 10=16 11=16 12=16 13=16 14=16 15=16 16=16
 submit point=15 version=14 day=2059-12-17 energies=12
 END
@@ -1999,6 +2000,7 @@ cause_order() {
     holds 'causes: the order of the table' sh -c "[ -s '$work/library' ] && sed '/^31\$/,\$d' '$work/page' | diff - '$work/library'"
     expect 'the cause of a notice below the highest version' 0 ./desk causes 37 <<END
 37  the version lies below the point's highest; a notice, positive or negative, is for the highest only
+    name:    NOTICE_BELOW
     calls:   notice
     to mend: give the notice for the point's highest version; to have an older series count, submit it again with a higher number
 END
@@ -2019,6 +2021,7 @@ END
 late_causes() {
     expect 'the cause of a late assign and a late lodging' 0 ./desk causes 26 <<END
 26  the day lies behind the deadline: correction for assign, clearing for lodge
+    name:    TOO_LATE
     calls:   assign, lodge
     to mend: it is too late for this month
 END
@@ -2038,18 +2041,23 @@ END
 run_causes() {
     expect 'the causes of close and issue' 0 ./desk causes 27 28 29 38 39 <<END
 27  the day does not lie behind the run's deadline: clearing for run 1, correction for run 2
+    name:    CLOSE_TOO_EARLY
     calls:   close
     to mend: close on a later day
 28  the run is closed already
+    name:    ALREADY_CLOSED
     calls:   close
     to mend: nothing: it is closed once; issue sends its statuses
 29  run 1 is not closed yet
+    name:    FIRST_RUN_OPEN
     calls:   close, of run 2
     to mend: close run 1 first
 38  the run is not closed yet
+    name:    NOT_CLOSED
     calls:   issue
     to mend: close it first, behind its deadline
 39  the run is issued already
+    name:    ALREADY_ISSUED
     calls:   issue
     to mend: nothing: its statuses are sent once
 END

@@ -70,11 +70,11 @@ def told_version(row):
     return f"{row['version']} {row['status']}"
 
 
-def line_of(rows, runs):
-    """A point's cells in the table of `desk run`; the other versions as a list. `runs` are those issued."""
+def line_of(rows):
+    """A point's cells in the table of `desk run`; the other versions as a list."""
     versions = [row for row in rows if row["version"]]
     first, second = selected(versions)
-    settled = [name for name, row in (("run 1", first), ("run 2", second)) if name in runs and is_settled(row)]
+    settled = [name for name, row in (("run 1", first), ("run 2", second)) if is_settled(row)]
     word = "-" if second is None else "both" if len(settled) == 2 else settled[0] if settled else "no"
     others = [row for row in reversed(versions) if row not in (first, second)]
     cells = ["none" if row is None else told_version(row) for row in (first, second)]
@@ -100,9 +100,8 @@ def told(points):
     cells = [[one[a:b].strip() for a, b in zip([0, *places], [*places, None])] for one in lines]
     found = {row[0]: row for row in cells}
     assert list(found) == sorted(found, key=int), "desk run"
-    runs = [run for run in ("run 1", "run 2") if f"\n{run} is issued: " in text]
     for rows in points:
-        *wanted, others = line_of(rows, runs)
+        *wanted, others = line_of(rows)
         *cells_there, rest = found[wanted[0]]
         assert cells_there == wanted, (cells_there, wanted)
         assert rest == fitted(others, 120 - places[-1]), (rest, others)

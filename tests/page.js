@@ -262,7 +262,7 @@ function seriesOf({ kind, area, partner }) {
 function selectedRow(number) {
   const rows = points.filter((row) => row.point === number);
   const picked = ["run_1", "run_2"].map((run) => rows.find((row) => row[run] === "yes"));
-  const settled = picked.map((row, at) => row !== undefined && row.settled === "yes" && runs[at].issued === "yes");
+  const settled = picked.map((row) => row !== undefined && row.settled === "yes");
   const word = picked[1] === undefined ? "-" : settled[0] && settled[1] ? "both" : settled[0] ? "run 1" : settled[1] ? "run 2" : "no";
   const status = (row, run) => run === 1 && row === picked[0] ? row.status + ", as run 1" : row.status;
   const cells = picked.flatMap((row, run) => row === undefined ? ["", ""] : [row.version, status(row, run)]);

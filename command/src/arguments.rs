@@ -132,10 +132,7 @@ pub const COMMANDS: [(&str, Command, &[&str]); 14] = [
 ];
 
 fn wrong(line: String) -> Failure {
-    Failure {
-        lines: vec![line, "`desk --help` shows how it is used".to_string()],
-        status: crate::NOTHING,
-    }
+    Failure::of(vec![line, "`desk --help` shows how it is used".to_string()])
 }
 
 /// An option that a command does not take: which commands take it, or what it takes itself.
@@ -200,10 +197,7 @@ pub fn read(words: Vec<OsString>) -> Result<Wanted, Failure> {
     let mut wanted = Wanted::new();
     let mut words = words.into_iter();
     let Some(first) = words.next() else {
-        return Err(Failure {
-            lines: help::overview().lines().map(str::to_string).collect(),
-            status: crate::NOTHING,
-        });
+        return Err(Failure::text(&help::overview()));
     };
     let first = first.to_string_lossy();
     wanted.command = match &*first {

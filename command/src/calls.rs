@@ -213,6 +213,21 @@ impl Call {
         at.and_then(|at| self.fields.get(at)).copied().unwrap_or(0)
     }
 
+    /// A field as a text has it: by its name, where its number has one in this call.
+    pub fn word(&self, field: &str) -> String {
+        let (number, series) = (self.field(field), self.field("kind"));
+        let fits = |name: &str| match name {
+            "outside" => series == 1,
+            "none" => matches!(series, 3 | 5),
+            "T" => self.kind == ASSIGN || series == 4,
+            _ => true,
+        };
+        let named = NAMES
+            .iter()
+            .find(|(of, name, value)| *of == field && *value == number && fits(name));
+        named.map_or(number.to_string(), |(_, name, _)| name.to_string())
+    }
+
     /// Whether the call has a day.
     pub fn has_day(&self) -> bool {
         self.form().fields.contains(&"day")

@@ -3,6 +3,7 @@
 use std::ffi::OsString;
 
 use crate::arguments::Form;
+use crate::numbers::quoted;
 use crate::output::{self, Failure};
 use crate::sheet::{Cell, Column, Sheet};
 use crate::ACCEPTED;
@@ -51,20 +52,29 @@ pub fn mend(number: u64) -> String {
         .map_or(String::new(), |cause| cause.mend.to_string())
 }
 
+/// The number of a cause, by its number or its name, also as the header has it.
+fn number_of(word: &str) -> Result<u64, Failure> {
+    let name = word.to_ascii_uppercase();
+    let name = name.strip_prefix("EMORIZUGU_").unwrap_or(&name);
+    let is_named = |cause: &Cause| word.parse() == Ok(cause.number) || cause.name == name;
+    if let Some(cause) = all().find(is_named) {
+        return Ok(cause.number);
+    }
+    let known: Vec<String> = all()
+        .map(|cause| format!("{} {}", cause.number, cause.name))
+        .collect();
+    Err(Failure::new(format!(
+        "there is no cause {}; causes are {}",
+        quoted(word),
+        known.join(", ")
+    )))
+}
+
 /// `desk causes`.
 pub fn tell(words: &[OsString], form: Form) -> Result<i32, Failure> {
     let mut numbers = Vec::new();
-    for word in words.iter().map(|word| word.to_string_lossy()) {
-        match word.parse() {
-            Ok(number) if all().any(|cause| cause.number == number) => numbers.push(number),
-            _ => {
-                let known: Vec<String> = all().map(|cause| cause.number.to_string()).collect();
-                return Err(Failure::new(format!(
-                    "there is no cause '{word}'; causes are {}",
-                    known.join(", ")
-                )));
-            }
-        }
+    for word in words {
+        numbers.push(number_of(&word.to_string_lossy())?);
     }
     let shown: Vec<Cause> = all()
         .filter(|cause| numbers.is_empty() || numbers.contains(&cause.number))
@@ -87,8 +97,8 @@ fn listed(causes: &[Cause], form: Form) -> String {
             .iter()
             .map(|c| {
                 format!(
-                    "{}  {}\n    calls:   {}\n    to mend: {}\n",
-                    c.number, c.meaning, c.calls, c.mend
+                    "{}  {}\n    name:    {}\n    calls:   {}\n    to mend: {}\n",
+                    c.number, c.meaning, c.name, c.calls, c.mend
                 )
             })
             .collect();

@@ -30,6 +30,21 @@ pub fn is_shown(replay: &Replay, delta: u64) -> bool {
     replay.has_delta(delta) || replay.is_moved(delta)
 }
 
+/// The deltas with something to show that a run books to a group: of one run, or of both; where only one of both does, which.
+pub fn booked(replay: &Replay, group: u64, run: Option<u64>) -> Vec<String> {
+    let told = |delta: u64| {
+        let [first, second] = [1, 2].map(|run| replay.delta_group(run, delta) == group);
+        match (run, first, second) {
+            (Some(1), true, _) | (Some(2), _, true) | (None, true, true) => Some(name(delta)),
+            (None, true, false) => Some(format!("{} in run 1", name(delta))),
+            (None, false, true) => Some(format!("{} in run 2", name(delta))),
+            _ => None,
+        }
+    };
+    let shown = all().filter(|delta| is_shown(replay, *delta));
+    shown.filter_map(told).collect()
+}
+
 /// The day of the last accepted call that moves a delta.
 fn day_of(ran: &Ran, delta: u64) -> Option<u64> {
     let mut calls = ran.month.calls.iter().zip(&ran.replay.answers);

@@ -92,10 +92,7 @@ fn encoded(name: &OsStr, bytes: &[u8]) -> Result<(), Failure> {
 /// What is wrong with each bad line of a text.
 pub fn wrong(name: &OsStr, complaints: &[String]) -> Failure {
     let told = |complaint: &String| format!("{}: {complaint}", shown(name));
-    Failure {
-        lines: complaints.iter().map(told).collect(),
-        status: crate::NOTHING,
-    }
+    Failure::of(complaints.iter().map(told).collect())
 }
 
 /// The bytes of a text that is no month: `what` says what it has, for bytes that are none.

@@ -75,6 +75,21 @@ fn picked(wanted: &Wanted, point: &Point) -> bool {
         .is_none_or(|asked| point.group() == Some(asked))
 }
 
+/// A word on standard error where deltas are booked to the group that is asked for: the points behind them are not picked.
+fn deltas_apart(wanted: &Wanted, ran: &Ran) {
+    let Some(group) = wanted.group.filter(|_| ran.replay.quarters > 0) else {
+        return;
+    };
+    let booked = deltas::booked(&ran.replay, group, wanted.run);
+    if !booked.is_empty() {
+        output::warn(&format!(
+            "{}: deltas are booked to group {group} ({}); the points behind them are not listed here, and `desk deltas` has the deltas",
+            ran.month.name,
+            booked.join(", ")
+        ));
+    }
+}
+
 /// The rows of the log in their own order. A point of the log has a version, so it is active.
 pub fn log(wanted: &Wanted) -> Result<i32, Failure> {
     let ran = month::run(wanted)?;
@@ -95,6 +110,7 @@ pub fn log(wanted: &Wanted) -> Result<i32, Failure> {
             ]);
         }
     }
+    deltas_apart(wanted, &ran);
     told(&ran, sheet)
 }
 
@@ -165,6 +181,7 @@ pub fn points(wanted: &Wanted) -> Result<i32, Failure> {
             .filter(counts)
             .for_each(|version| point_row(&mut sheet, &ran, point, Some(version)));
     }
+    deltas_apart(wanted, &ran);
     told(&ran, sheet)
 }
 

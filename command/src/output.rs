@@ -11,14 +11,33 @@ use crate::NOTHING;
 pub struct Failure {
     pub lines: Vec<String>,
     pub status: i32,
+    /// What stands in front of each line.
+    pub front: &'static str,
 }
+
+/// The program's name, in front of its complaints.
+const NAME: &str = "desk: ";
 
 impl Failure {
     /// Nothing could be run.
     pub fn new(line: impl Into<String>) -> Failure {
+        Failure::of(vec![line.into()])
+    }
+
+    /// Nothing could be run, for several reasons.
+    pub fn of(lines: Vec<String>) -> Failure {
         Failure {
-            lines: vec![line.into()],
+            lines,
             status: NOTHING,
+            front: NAME,
+        }
+    }
+
+    /// A text in the place of an answer.
+    pub fn text(text: &str) -> Failure {
+        Failure {
+            front: "",
+            ..Failure::of(text.lines().map(str::to_string).collect())
         }
     }
 
@@ -27,7 +46,7 @@ impl Failure {
         let text: String = self
             .lines
             .iter()
-            .map(|line| format!("desk: {line}\n"))
+            .map(|line| format!("{}{line}\n", self.front))
             .collect();
         let _ = io::stderr().write_all(text.as_bytes());
     }
@@ -109,7 +128,7 @@ pub fn colours() -> bool {
 
 /// A word on standard error; the work goes on.
 pub fn warn(line: &str) {
-    let _ = writeln!(io::stderr(), "desk: {line}");
+    let _ = writeln!(io::stderr(), "{NAME}{line}");
 }
 
 /// The bytes to a file, whole or not at all: to a neighbour first, which then takes its name.

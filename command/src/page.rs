@@ -113,7 +113,7 @@ fn selected(replay: &Replay) -> String {
         })
     };
     let row = |point: &Point| {
-        let settled = selections::settled(replay, point);
+        let settled = selections::settled(point);
         let mood = if settled == "both" { " good" } else { "" };
         format!(
             "<tr>{}{}<td class=\"word{mood}\">{settled}</td>{}{}<td class=\"word long\">{}</td></tr>\n",

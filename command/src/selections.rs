@@ -41,12 +41,9 @@ pub fn status(run: u64, version: &Version) -> String {
     format!("{}{mark}", name_in(&STATUSES, version.status))
 }
 
-/// In which runs what is selected is settled; a dash where no run selects anything. What run 2 has from run 1 is settled there when both are issued:
-/// it has its status from run 1, and up to the correction deadline a correction may take its place.
-pub fn settled(replay: &Replay, point: &Point) -> &'static str {
-    let settled = |at: usize| {
-        replay.issued[at] && point.selected[at].is_some_and(|version| version.is_settled())
-    };
+/// In which runs the version that is selected is settled; a dash where no run selects one.
+pub fn settled(point: &Point) -> &'static str {
+    let settled = |at: usize| point.selected[at].is_some_and(|version| version.is_settled());
     match (settled(0), settled(1)) {
         (true, true) => "both",
         (true, false) => "run 1",
@@ -163,7 +160,7 @@ const HEAD: [&str; 6] = [
 const WIDTH: usize = 120;
 
 /// A point's line, without its other versions.
-fn line(replay: &Replay, point: &Point) -> Line {
+fn line(point: &Point) -> Line {
     let selected = |run: u64| match &point.selected[run as usize - 1] {
         None => "none".to_string(),
         Some(version) if is_taken(run, version) => "as run 1".to_string(),
@@ -172,7 +169,7 @@ fn line(replay: &Replay, point: &Point) -> Line {
     [
         format!("{:>5}", point.number),
         series(point),
-        settled(replay, point).to_string(),
+        settled(point).to_string(),
         selected(1),
         selected(2),
         String::new(),
@@ -192,7 +189,7 @@ fn fitted(versions: &[&Version], room: usize) -> String {
 /// The table for people: its head, then a line a point. Each cell but the last is as wide as the longest of its column.
 pub fn table(replay: &Replay) -> Vec<Line> {
     let mut lines = vec![HEAD.map(str::to_string)];
-    lines.extend(replay.points.iter().map(|point| line(replay, point)));
+    lines.extend(replay.points.iter().map(line));
     let widths: [usize; 5] = std::array::from_fn(|column| {
         let lengths = lines.iter().map(|line| line[column].len());
         lengths.max().unwrap_or(0)

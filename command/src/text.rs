@@ -197,7 +197,7 @@ fn line_of(call: &Call, reader: &Reader, month: Option<Month>) -> String {
     for (name, number) in call.form().fields.iter().zip(&call.fields) {
         let month = month.filter(|_| is_day(name));
         let date = calendar::dated(month, *number);
-        let shown = date.map_or(number.to_string(), |date| date.to_string());
+        let shown = date.map_or_else(|| call.word(name), |date| date.to_string());
         line.push_str(&format!(" {name}={shown}"));
     }
     if call.kind == SUBMIT {
