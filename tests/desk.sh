@@ -36,7 +36,7 @@ refusal() {
 refusals() {
     local active='activate point=1 kind=exchange area=1 partner=outside day=0' sent='submit point=1 version=2 day=2 energies=1,2'
     refusal "submit point 4 version 2: refused, 5: day 5 lies before the desk's day 40, which line 2 set" \
-        'give it day 40 or later; if day 40 is a mistake, correct line 2' \
+        'give it day 42 or later, which would make it check data, counted only after a positive notice; if day 40 is a mistake, correct line 2' \
         'activate point=4 kind=group-sum area=1 partner=5 day=40' 'submit point=4 version=2 day=5 energies=1,2'
     refusal 'activate point 300: refused, 3: point 300 is not 1 to 256; day 500 is not 0 to 400' 'correct what is named' \
         'activate point=300 kind=1 area=1 partner=0 day=500'
@@ -93,7 +93,7 @@ runs_refused() {
     refusal 'issue run 0: refused, 3: run 0 is not 1 to 2; day 401 is not 0 to 400' 'correct what is named' 'issue run=0 day=401'
     refusal "issue run 1: refused, 5: day 30 lies before the desk's day 31, which line 2 set" 'give it day 31 or later; if day 31 is a mistake, correct line 2' \
         "$first" 'issue run=1 day=30'
-    refusal "issue run 1: refused, 5: day 31 lies before the desk's day 32, which line 3 set" 'give it day 32 or later; if day 32 is a mistake, correct line 3' \
+    refusal "issue run 1: refused, 5: day 31 lies before the desk's day 32, which line 3 set" 'if day 32 is a mistake, correct line 3; on a later day it is refused with 39' \
         "$first" 'issue run=1 day=32' 'issue run=1 day=31'
     refusal 'issue run 1: refused, 38: run 1 is not closed yet' 'put `close run=1` in front of it, on day 31 or later' 'issue run=settlement day=31'
     refusal 'issue run 1: refused, 38: run 1 is not closed yet' 'put `close run=1` in front of it, both on day 31 or later' 'issue run=1 day=30'
@@ -117,7 +117,7 @@ runs_refused() {
 dated_refusals() {
     local known=2026-07 active='activate point=1 kind=exchange area=1 partner=outside day=0' sent='submit point=1 version=2 day=2 energies=1,2'
     refusal "submit point 4 version 2: refused, 5: day 5 (2026-08-07) lies before the desk's day 40 (2026-09-25), which line 2 set" \
-        'give it day 40 (2026-09-25) or later; if day 40 is a mistake, correct line 2' \
+        'give it day 42 (2026-09-29) or later, which would make it check data, counted only after a positive notice; if day 40 is a mistake, correct line 2' \
         'activate point=4 kind=group-sum area=1 partner=5 day=40' 'submit point=4 version=2 day=5 energies=1,2'
     refusal 'activate point 300: refused, 3: point 300 is not 1 to 256; day 500 is not 0 to 400' 'correct what is named' \
         'activate point=300 kind=1 area=1 partner=0 day=500'
@@ -172,7 +172,7 @@ notices() {
 # 37 comes behind 5, 11, 12 and 24, where there is no such version, and in front of 25, which only the highest version gets.
 notices_in_order() {
     refusal "notice point 1 version 3: refused, 5: day 11 lies before the desk's day 12, which line 4 set" \
-        'give it day 12 or later; if day 12 is a mistake, correct line 4' "$active" "$older" "$newer" "$notice=3 verdict=positive day=11"
+        'move this line above line 4; if day 12 is a mistake, correct line 4' "$active" "$older" "$newer" "$notice=3 verdict=positive day=11"
     refusal 'notice point 1 version 3: refused, 11: day 151 lies behind the correction deadline, day 150 (line 1)' \
         'the last day for it is 150; correct the day, or leave the call out' "$active" "$older" "$newer" "$notice=3 verdict=positive day=151"
     refusal 'notice point 2 version 3: refused, 12: point 2 is not active: no call in front activates it' \
@@ -208,6 +208,8 @@ notice point=1 version=2 verdict=positive day=14
 END
     )
     expect 'notices: a month with some below the highest version' 1 ./desk run "$file" <<END
+3 of 4 refused calls come from line 6: submit point 1 version 30; look there first
+
 line 8, call 8: notice point 1 version 2: refused, 37: version 2 lies below version 30, the point's highest, which line 6 submitted on day 12
     to mend it: give the notice for version 30, the highest, or leave the call out
 line 9, call 9: submit point 2 version 2: refused, 3: the series has 1 energy, and the month 2 quarter hours (line 1)
@@ -216,7 +218,6 @@ line 10, call 10: notice point 1 version 1: refused, 37: version 1 lies below ve
     to mend it: give the notice for version 30, the highest, or leave the call out
 line 13, call 13: notice point 1 version 2: refused, 37: version 2 lies below version 30, the point's highest, which line 6 submitted on day 12
     to mend it: leave the call out: version 30, the highest, counts already
-3 of these come from line 6: submit point 1 version 30; look there first
 
 13 calls, 4 refused; day 14; no run closed; 2 quarter hours
 the first refused: line 8, call 8
@@ -270,10 +271,10 @@ typed_day() {
     cp examples/july.csv "$work"
     ./desk run "$file" >"$work/out" 2>&1
     [ $? -eq 1 ] && grep -qxF "line 20, call 10: submit point 2 version 1: refused, 5: day 4 (2026-08-06) lies before the desk's day 47 (2026-10-06), which line 19 set" "$work/out" &&
-        grep -qxF '    to mend it: give it day 47 (2026-10-06) or later; if day 47 is a mistake, correct line 19' "$work/out" &&
+        grep -qxF '    to mend it: move this line above line 19; a later day would make it check data, counted only after a positive notice; if day 47 is a mistake, correct line 19' "$work/out" &&
         grep -qxF 'line 36, call 22: close run 2: refused, 29: run 1 is not closed: its close in line 33 was refused, 5' "$work/out" &&
         grep -qxF 'line 37, call 23: issue run 2: refused, 38: run 2 is not closed: its close in line 36 was refused, 29' "$work/out" &&
-        grep -qxF '14 of these come from line 19: submit point 1 version 1; look there first' "$work/out" &&
+        grep -qxF '14 of 14 refused calls come from line 19: submit point 1 version 1; look there first' "$work/out" &&
         grep -qxF '23 calls, 14 refused; day 47 (2026-10-06); no run closed; 2976 quarter hours' "$work/out" &&
         grep -qxF 'the first refused: line 20, call 10' "$work/out"
 }
@@ -1027,9 +1028,9 @@ groups_refused() {
         'assign area=16 group=64 day=151'
     refusal "assign area 1 group 1: refused, 26: $behind" "$late" 'close run=1 day=31' 'close run=2 day=151' 'issue run=2 day=151' 'assign area=1 group=1 day=151'
     refusal 'assign area T group 5: refused, 26: day 400 lies behind the correction deadline, day 150 (line 1)' "$late" 'assign area=0 group=5 day=400'
-    refusal "assign area 2 group 5: refused, 5: day 31 lies before the desk's day 32, which line 2 set" 'give it day 32 or later; if day 32 is a mistake, correct line 2' \
+    refusal "assign area 2 group 5: refused, 5: day 31 lies before the desk's day 32, which line 2 set" 'move this line above line 2, or give it day 32 or later; if day 32 is a mistake, correct line 2' \
         'assign area=2 group=6 day=32' 'assign area=2 group=5 day=31'
-    refusal "assign area 2 group 5: refused, 5: day 151 lies before the desk's day 160, which line 2 set" 'give it day 160 or later; if day 160 is a mistake, correct line 2' \
+    refusal "assign area 2 group 5: refused, 5: day 151 lies before the desk's day 160, which line 2 set" 'if day 160 is a mistake, correct line 2; on a later day it is refused with 26' \
         'close run=1 day=160' 'assign area=2 group=5 day=151'
     refusal 'assign area 17 group 0: refused, 3: area 17 is not 0 to 16; group 0 is not 1 to 64' 'correct what is named' 'assign area=17 group=0 day=151'
 }
@@ -1150,7 +1151,7 @@ bad_lines() {
         'activate point=1 kind=exchang area=1 partner=0 day=0'
     bad "an energy is outside -4611686018427387904 to 4611686018427387903, what a file can carry: '4611686018427387904'" \
         'submit point=1 version=1 day=2 energies=1,4611686018427387904'
-    bad "an energy has its digits in groups: '1.000.000'; write them together" 'submit point=1 version=1 day=2 energies=1.000.000'
+    bad "an energy has its digits in groups: '1.000.000'; write them together, or say thousands=point" 'submit point=1 version=1 day=2 energies=1.000.000'
     bad "an energy has its digits in groups: '1'000'; write them together" "submit point=1 version=1 day=2 energies=1'000"
     bad "a field is written name=number: '000'; write the digits of a number together" 'submit point=1 version=1 day=2 energies=1 000'
     bad "energies names no file: '@:x'" 'submit point=1 version=1 day=2 energies=@:x'
@@ -1200,7 +1201,7 @@ END
     file=$(printf '%s\n' 'submit point=1 version=1 day=2 energies=@r.csv' 'submit point=1 version=1 day=2 energies=@q.csv:power' \
         'submit point=1 version=1 day=2 energies=@none.csv' | text wrong.calls)
     expect 'pack: series that do not fit' 2 ./desk pack "$file" -o "$work/wrong.msg" <<END
-! desk: $file: line 1: r.csv: line 2: an energy is no whole number: '2.5'
+! desk: $file: line 1: r.csv: line 2: an energy has decimals: is unit=kWh missing? '2.5'
 ! desk: $file: line 2: q.csv: line 1: has no column 'power'; its columns are time, energy, other
 ! desk: $file: line 3: none.csv: no such file
 END
@@ -1225,14 +1226,14 @@ tables() {
 submit point=1 version=1 day=2 energies=1500,-1  # offset 0
 END
     table 'line 2: has 4 cells, and the header 3' 'a,x,b' '1,1,000,2'
-    table 'line 3: has 1 cells, and the header 2' 'a;x' '1;2' ''
+    table 'line 3: is blank; take it away' 'a;x' '1;2' ''
     table "line 1: has two columns 'x'" 'x;a;x' '1;2;3'
     table 'line 2: has a quote that is not closed' 'a,x' '1,"2'
     table 'line 2: goes on behind a closing quote' 'a,x' '1,"2"3'
-    table "line 2: an energy in kWh is digits with up to three decimals behind a point: '1,5'; 2 further lines do not fit: 4, 5" \
+    table "line 2: an energy in kWh is digits with up to three decimals behind a point: '1,5'; is decimal=comma missing?; 2 further lines do not fit: 4, 5" \
         'a;x' '1;1,5' '2;1.5' '3;1,6' '4;'
     table "line 3: an energy in kWh is digits with up to three decimals behind a point: 'y'; line 4 does not fit either" 'x' '1' 'y' 'z'
-    table '2981 energies, and a file carries at most 2980' x $(seq 2981)
+    table '2981 energies (lines 2 to 2982), and a file carries at most 2980' x $(seq 2981)
     printf '\357\273\277x\n1\n' >"$work/t.csv"
     has 'pack: a byte order mark in a table' 2 't.csv: begins with a byte order mark' ./desk pack "$work/t.calls"
     printf 'x\r\n1\r\n' >"$work/t.csv"
@@ -1479,21 +1480,21 @@ bad_schedules() {
     unlodged "$beyond: '-1000000000001'" 'lodge group=5 energies=1,2,-1000000000001'
     unlodged "$beyond: '9223372036854775808'" 'lodge group=5 energies=1,9223372036854775808,3'
     unlodged "$beyond: '1000000000.001'" 'lodge group=5 unit=kWh energies=1,2,1000000000.001'
-    unlodged "an energy is no whole number: '1.5'" 'lodge group=5 energies=1.5,2,3'
+    unlodged "an energy has decimals: is unit=kWh missing? '1.5'" 'lodge group=5 energies=1.5,2,3'
     unlodged "an energy in kWh is digits with up to three decimals behind a point: '1.5555'" 'lodge group=5 unit=kWh energies=1.5555,2,3'
     unlodged "unit is Wh or kWh: 'MWh'" 'lodge group=5 unit=MWh energies=1,2,3'
     unlodged 'lodge lacks energies' 'lodge group=5'
     unlodged 'lodge lacks group, energies' 'lodge'
     unlodged 'group stands twice' 'lodge group=5 group=5 energies=1,2,3'
     unlodged "a field is written name=number: 'group'" 'lodge group energies=1,2,3'
-    unlodged "lodge has no field 'day'; its fields are group, energies, unit" 'lodge group=5 day=3 energies=1,2,3'
+    unlodged "lodge has no field 'day'; its fields are group, energies, unit, decimal, thousands" 'lodge group=5 day=3 energies=1,2,3'
     unlodged "there is no call 'submit' in a text of schedules; it has lodge alone" 'submit point=1 version=1 day=2 energies=1,2,3'
     unlodged "there is no call 'month' in a text of schedules; it has lodge alone" 'month 2026-07'
     unlodged "there is no call 'lodges' in a text of schedules; it has lodge alone" 'lodges group=5 energies=1,2,3'
     printf '1\n2\n' >"$work/two.csv"
     printf 'x;y\n1;2\n3;1000000000001\n4;5\n' >"$work/xy.csv"
     unlodged 'none.csv: no such file' 'lodge group=5 energies=@none.csv'
-    unlodged 'two.csv: 2 energies, and the month has 3 quarter hours' 'lodge group=5 energies=@two.csv'
+    unlodged 'two.csv: 2 energies (lines 1 to 2), and the month has 3 quarter hours' 'lodge group=5 energies=@two.csv'
     unlodged "xy.csv: line 3: $beyond: '1000000000001'" 'lodge group=5 energies=@xy.csv:y'
     unlodged "xy.csv: line 1: has no column 'z'; its columns are x, y" 'lodge group=5 energies=@xy.csv:z'
     unlodged 'has bytes that are no text in UTF-8, and not in a comment' "$(printf 'lodge group=5 energies=1,2,3\377')"
@@ -1938,7 +1939,7 @@ help() {
     has 'an option of others: causes' 2 'desk causes has no option --run; figures, log, points, runs, deltas, report have it$' ./desk causes --run 1
     has 'an option of others: day' 2 'desk day has no option --month; run, figures, log, points, runs, deltas, report, page, pack, print have it$' ./desk day x --month 2026-10
     has 'an option of others: runs' 2 'desk runs has no option --group; figures, log, points, deltas, report have it$' ./desk runs x --group 3
-    has 'an option of others: log' 2 'desk log has no option --all; figures, deltas, report have it$' ./desk log x --all
+    has 'an option of others: log' 2 'desk log has no option --all; run, figures, deltas, report have it$' ./desk log x --all
     has 'an option of another' 2 'desk run has no option --schedules; desk page has it$' ./desk run x --schedules y
     has 'an option twice' 2 '--run stands twice' ./desk log x --run 1 --run 2
     has 'two forms' 2 '--csv and --json do not go together' ./desk log x --csv --json

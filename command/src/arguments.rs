@@ -80,7 +80,7 @@ const DEADLINES: [&str; 3] = ["--first", "--clearing", "--correction"];
 
 /// The commands by name, each with the options that it takes.
 pub const COMMANDS: [(&str, Command, &[&str]); 14] = [
-    ("run", Command::Run, &["--month"]),
+    ("run", Command::Run, &["--all", "--month"]),
     (
         "figures",
         Command::Figures,

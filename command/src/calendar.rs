@@ -2,7 +2,7 @@
 
 use std::fmt;
 
-use crate::calls::{name_in, Place};
+use crate::calls::name_in;
 use crate::library;
 
 /// The years of the calendar, and the highest day number.
@@ -180,19 +180,11 @@ pub fn dated(month: Option<Month>, day: u64) -> Option<Date> {
 }
 
 /// A day as it is shown: its number, and its date in brackets.
-pub fn shown(month: Option<Month>, day: u64) -> String {
-    match dated(month, day) {
-        Some(date) => format!("{day} ({date})"),
-        None => day.to_string(),
-    }
+pub fn told(day: u64, date: Option<Date>) -> String {
+    date.map_or(day.to_string(), |date| format!("{day} ({date})"))
 }
 
-/// A day with the call that set it: `30 (2026-09-11, line 1)`.
-pub fn noted(month: Option<Month>, day: u64, by: Option<Place>) -> String {
-    let date = dated(month, day).map(|date| date.to_string());
-    let notes: Vec<String> = date
-        .into_iter()
-        .chain(by.map(|place| place.short()))
-        .collect();
-    format!("{day} ({})", notes.join(", "))
+/// A day by its number.
+pub fn shown(month: Option<Month>, day: u64) -> String {
+    told(day, dated(month, day))
 }

@@ -1,5 +1,7 @@
 //! The calls of a month by name: their fields, and the names of numbers.
 
+use crate::calendar::{self, Date, Month};
+
 /// The most fields that a call has: those of an opening.
 pub const MOST_FIELDS: usize = 21;
 
@@ -199,6 +201,18 @@ pub struct Call {
     pub kind: u64,
     pub fields: Vec<u64>,
     pub energies: usize,
+    /// What a text has beside the numbers, where there is something.
+    pub typed: Option<Box<Typed>>,
+}
+
+/// Dates on days off, each with the field that it was typed for.
+pub type DaysOff = Vec<(&'static str, Date)>;
+
+/// What a text has beside a call's numbers: the file of its series, perhaps with a column, and dates on days off.
+#[derive(Clone)]
+pub struct Typed {
+    pub source: Option<String>,
+    pub days_off: DaysOff,
 }
 
 impl Call {
@@ -226,6 +240,31 @@ impl Call {
             .iter()
             .find(|(of, name, value)| *of == field && *value == number && fits(name));
         named.map_or(number.to_string(), |(_, name, _)| name.to_string())
+    }
+
+    /// The file of its series, where a text names one.
+    pub fn source(&self) -> Option<&str> {
+        self.typed.as_deref()?.source.as_deref()
+    }
+
+    /// Its dates on days off.
+    pub fn days_off(&self) -> &[(&'static str, Date)] {
+        let typed = self.typed.as_deref();
+        typed.map_or(&[], |typed| &typed.days_off)
+    }
+
+    /// The date of a field that is a day: as it was typed where that is a day off, else the first with that number, where there is one.
+    pub fn date(&self, field: &str, month: Option<Month>) -> Option<Date> {
+        let typed = self.days_off().iter().find(|(name, _)| *name == field);
+        typed.map_or_else(
+            || calendar::dated(month, self.field(field)),
+            |(_, date)| Some(*date),
+        )
+    }
+
+    /// A field that is a day as it is shown: its number, and its date in brackets.
+    pub fn day(&self, field: &str, month: Option<Month>) -> String {
+        calendar::told(self.field(field), self.date(field, month))
     }
 
     /// Whether the call has a day.

@@ -1,7 +1,7 @@
 //! Dates in a text: the month that its `month` line or `--month` names, and the numbers of the dates behind it.
 
 use crate::calendar::{Date, Month};
-use crate::calls::is_day;
+use crate::calls::{is_day, DaysOff};
 use crate::numbers::quoted;
 
 /// What is known of the month while a text is read.
@@ -15,6 +15,8 @@ pub struct Dates {
     first: Option<usize>,
     /// The lines with a date that have no month in front.
     loose: Vec<usize>,
+    /// The dates of the line that is read that are days off.
+    days_off: DaysOff,
 }
 
 /// The month of a `month` line.
@@ -38,6 +40,7 @@ impl Dates {
             named: None,
             first: None,
             loose: Vec::new(),
+            days_off: Vec::new(),
         }
     }
 
@@ -69,17 +72,27 @@ impl Dates {
 
     /// The number of a date in a field that takes one; None where the word is no date. Where the month is missing or could not be read
     /// that is told elsewhere, and the number does not matter.
-    pub fn number(&mut self, field: &str, word: &str) -> Option<Result<u64, String>> {
+    pub fn number(&mut self, field: &'static str, word: &str) -> Option<Result<u64, String>> {
         let date = Date::read(word).filter(|_| is_day(field))?;
         self.first.get_or_insert(self.at);
         if let Some(month) = self.month() {
+            let day = month.day(date);
+            let first = day.as_ref().ok().and_then(|day| month.date(*day).ok());
+            if first.is_some_and(|first| first != date) {
+                self.days_off.push((field, date));
+            }
             let told = |refused| format!("{field} is {refused}");
-            return Some(month.day(date).map_err(told));
+            return Some(day.map_err(told));
         }
         if self.named.is_none() && self.loose.last() != Some(&self.at) {
             self.loose.push(self.at);
         }
         Some(Ok(0))
+    }
+
+    /// The line's dates on days off, taken away.
+    pub fn take_days_off(&mut self) -> DaysOff {
+        std::mem::take(&mut self.days_off)
     }
 
     /// The lines with a date that have no month in front, told at the first.

@@ -45,13 +45,10 @@ pub fn booked(replay: &Replay, group: u64, run: Option<u64>) -> Vec<String> {
     shown.filter_map(told).collect()
 }
 
-/// The day of the last accepted call that moves a delta.
-fn day_of(ran: &Ran, delta: u64) -> Option<u64> {
-    let mut calls = ran.month.calls.iter().zip(&ran.replay.answers);
-    let moves = |(call, answer): &(&Call, &u64)| {
-        **answer == 0 && call.kind == ASSIGN && call.field("area") == delta
-    };
-    calls.rfind(moves).map(|(call, _)| call.field("day"))
+/// The last accepted call that moves a delta.
+fn mover(ran: &Ran, delta: u64) -> Option<&Call> {
+    let mut calls = ran.accepted();
+    calls.rfind(|call| call.kind == ASSIGN && call.field("area") == delta)
 }
 
 /// A line for each delta that run 2 books to another group than run 1: since which day, and the delta in run 2 over the month.
@@ -59,7 +56,8 @@ pub fn moved(ran: &Ran) -> Vec<String> {
     let replay = &ran.replay;
     let line = |delta: u64| {
         let [first, second] = [1, 2].map(|run| replay.delta_group(run, delta));
-        let day = day_of(ran, delta).map_or(String::new(), |day| format!("day {}: ", ran.day(day)));
+        let day =
+            mover(ran, delta).map_or(String::new(), |call| format!("day {}: ", ran.day_of(call)));
         format!(
             "{day}{}, run 2: group {second} in the place of {first}, which run 1 keeps; {} Wh",
             name(delta),

@@ -12,6 +12,7 @@ use crate::calls::{Call, Place};
 use crate::library;
 use crate::lines;
 use crate::output::{self, words, Failure};
+use crate::series::Files;
 use crate::text;
 
 /// A month's calls, packed, and where each of them stands. Its name is as it is shown, its source as it was given; `settled` is which month it is,
@@ -22,8 +23,9 @@ pub struct Month {
     pub settled: Option<calendar::Month>,
     pub file: Vec<u8>,
     pub calls: Vec<Call>,
-    /// The files of the text's series.
+    /// The files of the text's series, by their paths, and as they were read.
     pub series: Vec<PathBuf>,
+    pub files: Files,
 }
 
 /// The bytes of a file, of a named pipe, or of standard input for `-`.
@@ -120,6 +122,7 @@ pub fn packed(wanted: &Wanted, bytes: &[u8]) -> Result<Month, Failure> {
         file: packed.file,
         calls: packed.calls,
         series: lines::files(bytes, &folder),
+        files: packed.files,
     })
 }
 
@@ -140,6 +143,19 @@ pub fn unpacked(file: &[u8]) -> Vec<Call> {
     calls
 }
 
+/// The month of a message file, with its calls as far as they are asked for.
+pub fn message(wanted: &Wanted, file: Vec<u8>, calls: Vec<Call>) -> Month {
+    Month {
+        name: shown(&wanted.file).into_owned(),
+        source: wanted.file.to_string_lossy().into_owned(),
+        settled: wanted.month,
+        file,
+        calls,
+        series: Vec::new(),
+        files: Files::new(Path::new("")),
+    }
+}
+
 /// The month that a file holds.
 pub fn month(wanted: &Wanted) -> Result<Month, Failure> {
     let name = &wanted.file;
@@ -157,12 +173,5 @@ pub fn month(wanted: &Wanted) -> Result<Month, Failure> {
         return Ok(month);
     }
     let calls = unpacked(&bytes);
-    Ok(Month {
-        name: shown.into_owned(),
-        source: name.to_string_lossy().into_owned(),
-        settled: wanted.month,
-        file: bytes,
-        calls,
-        series: Vec::new(),
-    })
+    Ok(message(wanted, bytes, calls))
 }

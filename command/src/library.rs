@@ -38,10 +38,10 @@ pub struct ReadCall {
 impl From<ReadCall> for calls::Call {
     fn from(read: ReadCall) -> calls::Call {
         calls::Call {
-            place: calls::Place::default(),
             kind: read.kind,
             fields: read.fields,
             energies: read.count,
+            ..calls::Call::default()
         }
     }
 }

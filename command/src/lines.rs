@@ -3,7 +3,7 @@
 use std::path::{Path, PathBuf};
 
 use crate::calls::DELTAS;
-use crate::numbers::{quoted, Unit};
+use crate::numbers::{has_hard_blank, quoted, shortened};
 use crate::series;
 
 /// A line's fields by name, each once.
@@ -12,22 +12,43 @@ pub struct Given<'a> {
     fields: Vec<(&'a str, &'a str)>,
 }
 
+/// What is wrong with a word that is no field, by those behind it.
+fn no_field(words: &[&str]) -> String {
+    // A field that blanks take apart.
+    let rest = words.get(1..words.len().min(3)).unwrap_or_default();
+    let parts = match (words[0].strip_suffix('='), rest) {
+        (Some(name), [value, ..]) if !name.is_empty() && !value.contains('=') => 2,
+        (None, ["=", value]) if !value.contains('=') => 3,
+        (None, [value, ..]) if value.len() > 1 && value.starts_with('=') => 2,
+        _ => 1,
+    };
+    if parts > 1 {
+        let [apart, whole] = [" ", ""].map(|between| words[..parts].join(between));
+        return format!(
+            "write {} without a blank: {}",
+            shortened(&whole),
+            quoted(&apart)
+        );
+    }
+    if let Some(name) = words[0].strip_suffix('=').filter(|name| !name.is_empty()) {
+        return format!("{} has no value: {}", shortened(name), quoted(words[0]));
+    }
+    let digits = words[0].bytes().all(|byte| byte.is_ascii_digit());
+    let hint = if digits {
+        "; write the digits of a number together"
+    } else {
+        ""
+    };
+    format!("a field is written name=number: {}{hint}", quoted(words[0]))
+}
+
 impl<'a> Given<'a> {
     pub fn read(call: &'static str, words: &[&'a str]) -> Result<Given<'a>, String> {
         let mut fields: Vec<(&str, &str)> = Vec::new();
-        for word in words {
+        for (at, word) in words.iter().enumerate() {
             let (name, value) = word.split_once('=').unwrap_or(("", ""));
             if name.is_empty() || value.is_empty() {
-                let digits = word.bytes().all(|byte| byte.is_ascii_digit());
-                let hint = if digits {
-                    "; write the digits of a number together"
-                } else {
-                    ""
-                };
-                return Err(format!(
-                    "a field is written name=number: {}{hint}",
-                    quoted(word)
-                ));
+                return Err(no_field(&words[at..]));
             }
             if fields.iter().any(|(other, _)| *other == name) {
                 return Err(format!("{name} stands twice"));
@@ -75,15 +96,6 @@ impl<'a> Given<'a> {
     }
 }
 
-/// The unit that a line names.
-pub fn unit_of(word: Option<&str>) -> Result<Unit, String> {
-    match word {
-        None | Some("Wh") => Ok(Unit::WattHours),
-        Some("kWh") => Ok(Unit::KilowattHours),
-        Some(other) => Err(format!("unit is Wh or kWh: {}", quoted(other))),
-    }
-}
-
 /// A line in front of its comment.
 fn content(line: &[u8]) -> &[u8] {
     line.split(|byte| *byte == b'#').next().unwrap_or(line)
@@ -93,11 +105,24 @@ fn content(line: &[u8]) -> &[u8] {
 fn words_of(line: &[u8]) -> Result<Vec<&str>, String> {
     let text = std::str::from_utf8(content(line))
         .map_err(|_| "has bytes that are no text in UTF-8, and not in a comment".to_string())?;
-    Ok(text
-        .trim_end_matches('\r')
-        .split([' ', '\t'])
-        .filter(|word| !word.is_empty())
-        .collect())
+    let words = text.trim_end_matches('\r').split([' ', '\t']);
+    let words: Vec<&str> = words.filter(|word| !word.is_empty()).collect();
+    match words.iter().find(|word| has_hard_blank(word)) {
+        Some(word) => Err(format!(
+            "has a hard blank: {}; type a plain one",
+            quoted(word)
+        )),
+        None => Ok(words),
+    }
+}
+
+/// The first word of each line that has one, in bytes.
+pub fn first_words(text: &[u8]) -> impl Iterator<Item = &[u8]> {
+    let lines = text.split(|byte| *byte == b'\n').map(content);
+    lines.filter_map(|line| {
+        let mut words = line.split(|byte| b" \t\r".contains(byte));
+        words.find(|word| !word.is_empty())
+    })
 }
 
 /// The files of a text's series, looked up in a folder.

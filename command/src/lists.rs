@@ -2,7 +2,8 @@
 //! log as it was written; points by number, and a point's versions by version; runs by number; deltas by run and area. What is picked stays in that order.
 
 use crate::arguments::Wanted;
-use crate::calls::{name_in, yes, CLOSE, ISSUE, SERIES, STATUSES};
+use crate::calendar::Date;
+use crate::calls::{name_in, yes, Call, CLOSE, ISSUE, SERIES, STATUSES};
 use crate::deltas;
 use crate::library::{Point, Version, GROUPS};
 use crate::month::{self, Ran};
@@ -48,6 +49,11 @@ pub fn figures(wanted: &Wanted) -> Result<i32, Failure> {
         }
     }
     told(&ran, sheet)
+}
+
+/// A date as lists show it; empty where there is none.
+pub fn shown(date: Option<Date>) -> String {
+    date.map_or(String::new(), |date| date.to_string())
 }
 
 /// The date of a day; nothing where there is none.
@@ -103,7 +109,7 @@ pub fn log(wanted: &Wanted) -> Result<i32, Failure> {
             sheet.row(&[
                 number(at as u64 + 1),
                 number(row.day),
-                date(&ran.date(row.day)),
+                date(&shown(ran.log_date(row))),
                 number(row.point),
                 number(row.run),
                 number(row.version),
@@ -150,7 +156,7 @@ fn point_row(sheet: &mut Sheet, ran: &Ran, point: &Point, version: Option<&Versi
         number(point.area),
         number(point.partner),
         number(point.since),
-        date(&ran.date(point.since)),
+        date(&shown(ran.since_date(point))),
         version,
         status,
         first,
@@ -201,10 +207,10 @@ fn run_row(sheet: &mut Sheet, ran: &Ran, run: u64) {
     let (replay, at) = (&ran.replay, run as usize - 1);
     let selected = || replay.points.iter().filter_map(|point| point.selected[at]);
     let settled = selected().filter(Version::is_settled);
-    let [closed, issued] = [CLOSE, ISSUE].map(|kind| ran.day_of(kind, run));
+    let [closed, issued] = [CLOSE, ISSUE].map(|kind| ran.call_on(kind, run));
     let [closed_date, issued_date] =
-        [closed, issued].map(|day| day.map_or(String::new(), |day| ran.date(day)));
-    let day = |day: Option<u64>| day.map_or(Cell::Nothing, number);
+        [closed, issued].map(|call| call.map_or(String::new(), |call| ran.date_of(call)));
+    let day = |call: Option<&Call>| call.map_or(Cell::Nothing, |call| number(call.field("day")));
     sheet.row(&[
         number(run),
         Cell::Word(yes(replay.closed[at])),

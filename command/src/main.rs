@@ -2,6 +2,7 @@
 #![no_main]
 
 mod arguments;
+mod before;
 mod calendar;
 mod calls;
 mod causes;
@@ -9,7 +10,9 @@ mod dates;
 mod days;
 mod deltas;
 mod deviation;
+mod energies;
 mod entries;
+mod fields;
 mod guard;
 mod help;
 mod input;
@@ -20,14 +23,20 @@ mod month;
 mod numbers;
 mod output;
 mod page;
+mod past;
+mod print;
+mod reasons;
 mod refusals;
 mod report;
+mod rows;
 mod schedules;
 mod selections;
 mod series;
 mod sheet;
 mod summary;
+mod table;
 mod text;
+mod trials;
 
 use arguments::{Command, Wanted};
 use output::Failure;
@@ -68,7 +77,7 @@ fn perform(wanted: &Wanted) -> Result<i32, Failure> {
         Command::Report => report::report(wanted),
         Command::Page => page::write(wanted),
         Command::Pack => text::pack(wanted),
-        Command::Print => text::print(wanted),
+        Command::Print => print::print(wanted),
         Command::Day => days::day(wanted),
         Command::Date => days::date(wanted),
         Command::Calendar => days::calendar(wanted),

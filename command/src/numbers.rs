@@ -1,54 +1,12 @@
-//! Numbers as people write them: fields by number or by name, energies in watt-hours or kilowatt-hours.
+//! Numbers as people write them: fields by number or by name.
 
-use crate::calls::{counted, is_day, named, names_of, MOST_ENERGY, MOST_QUARTERS};
-use crate::series::Files;
+use crate::calls::{is_day, named, names_of};
 
 /// From where to where a number goes, and why.
-struct Range(i128, i128, &'static str);
+pub struct Range(pub i128, pub i128, pub &'static str);
 
-const CARRIED: &str = ", what a file can carry";
+pub const CARRIED: &str = ", what a file can carry";
 const FIELDS: Range = Range(0, (1 << 63) - 1, CARRIED);
-
-/// The unit of a line's energies: watt-hours, or kilowatt-hours with up to three decimals.
-#[derive(Clone, Copy, PartialEq)]
-pub enum Unit {
-    WattHours,
-    KilowattHours,
-}
-
-/// What a series is read for, which limits its energies and their number.
-#[derive(Clone, Copy)]
-pub enum Limits {
-    /// A message file: energies from -2^62 to 2^62 - 1.
-    File,
-    /// A schedule, in a month of so many quarter hours.
-    Schedule(usize),
-}
-
-impl Limits {
-    fn energies(self) -> Range {
-        let most = MOST_ENERGY as i128;
-        match self {
-            Limits::File => Range(-(1 << 62), (1 << 62) - 1, CARRIED),
-            Limits::Schedule(_) => Range(-most, most, ", in watt-hours"),
-        }
-    }
-
-    /// The series, where it has as many energies as it may.
-    pub fn counted(self, series: Vec<u64>) -> Result<Vec<u64>, String> {
-        let energies = counted(series.len(), "energ", "y", "ies");
-        match self {
-            Limits::File if series.len() > MOST_QUARTERS => Err(format!(
-                "{energies}, and a file carries at most {MOST_QUARTERS}"
-            )),
-            Limits::Schedule(quarters) if series.len() != quarters => {
-                let month = counted(quarters, "quarter hour", "", "s");
-                Err(format!("{energies}, and the month has {month}"))
-            }
-            _ => Ok(series),
-        }
-    }
-}
 
 /// A word as complaints show it, cut where it is long.
 pub fn shortened(word: &str) -> String {
@@ -63,10 +21,20 @@ pub fn quoted(word: &str) -> String {
     format!("'{}'", shortened(word))
 }
 
+/// Whether a letter is a blank that looks like a plain one, and is none.
+pub fn is_hard_blank(letter: char) -> bool {
+    !letter.is_ascii() && letter.is_whitespace()
+}
+
+pub fn has_hard_blank(word: &str) -> bool {
+    word.contains(is_hard_blank)
+}
+
 /// Whether a word is digits in groups of three with marks between.
 fn grouped(word: &str) -> bool {
     let digits = word.strip_prefix('-').unwrap_or(word);
-    let parts: Vec<&str> = digits.split(['.', ',', '\'', '_', '\u{a0}']).collect();
+    let is_mark = |letter| ".,'_ ".contains(letter) || is_hard_blank(letter);
+    let parts: Vec<&str> = digits.split(is_mark).collect();
     let whole = |part: &&str| !part.is_empty() && part.bytes().all(|byte| byte.is_ascii_digit());
     parts.len() > 1 && parts.iter().all(whole) && parts[1..].iter().all(|part| part.len() == 3)
 }
@@ -79,7 +47,7 @@ fn like_a_date(word: &str) -> bool {
 }
 
 /// The whole number of a word of digits, perhaps with a minus; None where it is none.
-fn whole(word: &str) -> Option<Result<i128, ()>> {
+pub fn whole(word: &str) -> Option<Result<i128, ()>> {
     let digits = word.strip_prefix('-').unwrap_or(word);
     let plain = !digits.is_empty() && digits.bytes().all(|byte| byte.is_ascii_digit());
     if !plain || (digits.len() > 1 && digits.starts_with('0')) {
@@ -93,7 +61,8 @@ fn whole(word: &str) -> Option<Result<i128, ()>> {
     })
 }
 
-fn no_number(name: &str, word: &str) -> String {
+/// What is wrong with a word that is no whole number.
+pub fn no_number(name: &str, word: &str) -> String {
     let digits = word.strip_prefix('-').unwrap_or(word);
     if grouped(word) {
         return format!(
@@ -116,7 +85,8 @@ fn no_number(name: &str, word: &str) -> String {
     format!("{name} is no whole number: {}", quoted(word))
 }
 
-fn within(
+/// A number that lies in its range.
+pub fn within(
     name: &str,
     word: &str,
     number: Result<i128, ()>,
@@ -156,48 +126,4 @@ pub fn field(name: &str, word: &str) -> Result<u64, String> {
         ));
     };
     Ok(within(name, word, number, FIELDS)? as u64)
-}
-
-/// An energy in watt-hours.
-pub fn energy(word: &str, unit: Unit, limits: Limits) -> Result<u64, String> {
-    let (name, range) = ("an energy", limits.energies());
-    if unit == Unit::WattHours {
-        let number = whole(word).ok_or_else(|| no_number(name, word))?;
-        return Ok(within(name, word, number, range)? as i64 as u64);
-    }
-    let (front, decimals) = word.split_once('.').unwrap_or((word, "000"));
-    let fits =
-        (1..=3).contains(&decimals.len()) && decimals.bytes().all(|byte| byte.is_ascii_digit());
-    let joined = format!("{front}{decimals:0<3}");
-    match whole(front) {
-        Some(Ok(_)) if fits => {
-            let number = joined.parse().map_err(|_| ());
-            Ok(within(name, word, number, range)? as i64 as u64)
-        }
-        Some(Err(())) if fits => within(name, word, Err(()), range).map(|_| 0),
-        _ => Err(format!(
-            "{name} in kWh is digits with up to three decimals behind a point: {}",
-            quoted(word)
-        )),
-    }
-}
-
-/// A line's energies: `none`, numbers with commas between, `@FILE` or `@FILE:COLUMN`.
-pub fn energies(
-    word: &str,
-    unit: Unit,
-    limits: Limits,
-    files: &mut Files,
-) -> Result<Vec<u64>, String> {
-    if let Some(source) = word.strip_prefix('@') {
-        return files.energies(source, unit, limits);
-    }
-    if word == "none" {
-        return limits.counted(Vec::new());
-    }
-    let series: Result<_, _> = word
-        .split(',')
-        .map(|word| energy(word, unit, limits))
-        .collect();
-    limits.counted(series?)
 }

@@ -1,14 +1,16 @@
 //! `desk page`: the month as one page for a browser, with no outside parts.
 
 use crate::arguments::Wanted;
-use crate::calls::{name_in, yes, OPEN, SERIES, STATUSES};
+use crate::calendar::Date;
+use crate::calls::{name_in, yes, Call, OPEN, SERIES, STATUSES};
 use crate::deltas;
 use crate::deviation;
 use crate::guard;
 use crate::library::{Point, Replay, Version, GROUPS};
+use crate::lists::shown;
 use crate::month::{self, Ran};
 use crate::output::Failure;
-use crate::refusals;
+use crate::refusals::{Refusal, Refusals, TOLD};
 use crate::report::{self, Reports};
 use crate::schedules;
 use crate::selections;
@@ -64,8 +66,8 @@ fn delta_rows(replay: &Replay) -> String {
 }
 
 /// The cells of a day: its number and its date.
-fn day(ran: &Ran, day: u64) -> String {
-    number(day as i64) + &word(&ran.date(day))
+fn day(day: u64, date: Option<Date>) -> String {
+    number(day as i64) + &word(&shown(date))
 }
 
 /// A version's number, as it is.
@@ -76,7 +78,7 @@ fn version_cell(version: &Version) -> String {
 fn version_row(ran: &Ran, point: &Point, version: Option<&Version>) -> String {
     let [number_of, area, partner] =
         [point.number, point.area, point.partner].map(|n| number(n as i64));
-    let since = day(ran, point.since);
+    let since = day(point.since, ran.since_date(point));
     let kind = word(name_in(&SERIES, point.kind));
     let told = version.map_or("<td></td>".repeat(5), |version| {
         let whether = [
@@ -140,7 +142,7 @@ fn shares(ran: &Ran) -> String {
 
 fn log(ran: &Ran) -> String {
     let cells = |(at, row): (usize, &crate::library::LogRow)| {
-        let day = day(ran, row.day);
+        let day = day(row.day, ran.log_date(row));
         let [at, point, run] = [at as u64 + 1, row.point, row.run].map(|n| number(n as i64));
         format!(
             "<tr>{at}{day}{point}{run}<td data-n=\"{0}\">{0}</td></tr>\n",
@@ -150,37 +152,28 @@ fn log(ran: &Ran) -> String {
     ran.replay.log.iter().enumerate().map(cells).collect()
 }
 
-/// The most refused calls that the page names one by one.
-const SHOWN: usize = 1000;
-
 fn refused(ran: &Ran) -> String {
-    let refusals = refusals::of(ran);
-    if refusals.is_empty() {
+    let refusals = Refusals::of(ran, TOLD);
+    if refusals.told.is_empty() {
         return String::new();
     }
-    let item = |refusal: &refusals::Refusal| {
+    let item = |refusal: &Refusal| {
         let mend = format!(
             "<br><span class=\"faint\">to mend it: {}</span>",
             escaped(&refusal.mend)
         );
         format!("<li>{}{mend}</li>\n", escaped(&refusal.line()))
     };
-    let first: String = refusals::sources(&refusals)
-        .iter()
-        .map(|(call, times)| {
-            format!(
-                "<p>{times} of these come from {}: {}; look there first.</p>",
-                call.place.short(),
-                call.title()
-            )
-        })
-        .collect();
-    let items: String = refusals.iter().take(SHOWN).map(item).collect();
-    let more = match refusals.len().saturating_sub(SHOWN) {
-        0 => String::new(),
-        more => format!("<li>and {more} more: desk run</li>\n"),
+    let lines = |lines: Vec<String>| -> String {
+        let lines = lines.iter();
+        lines
+            .map(|line| format!("<p>{}</p>\n", escaped(line)))
+            .collect()
     };
-    format!("<h2 class=\"bad\">Refused calls</h2>{first}<div class=\"scroll short\"><ol class=\"calls\" id=\"refused\">\n{items}{more}</ol></div>")
+    let first = lines(refusals.sources());
+    let items: String = refusals.told.iter().map(item).collect();
+    let more = lines(refusals.more(&ran.month.source));
+    format!("<h2 class=\"bad\">Refused calls</h2>{first}<div class=\"scroll short\"><ol class=\"calls\" id=\"refused\">\n{items}</ol></div>{more}")
 }
 
 /// A part with an item a line; nothing where there is none.
@@ -283,17 +276,17 @@ fn groups(replay: &Replay, reports: Option<&Reports>) -> (String, String) {
     (rows, format!("[{}]", data.join(",\n")))
 }
 
-/// The deadlines of the opening that was accepted.
-fn deadlines(ran: &Ran) -> Option<[u64; 3]> {
-    let mut calls = ran.month.calls.iter().zip(&ran.replay.answers);
-    let (call, _) = calls.find(|(call, answer)| call.kind == OPEN && **answer == 0)?;
-    Some(["first", "clearing", "correction"].map(|name| call.field(name)))
+const DEADLINES: [&str; 3] = ["first", "clearing", "correction"];
+
+/// The opening that was accepted.
+fn opening(ran: &Ran) -> Option<&Call> {
+    ran.accepted().find(|call| call.kind == OPEN)
 }
 
 /// The deadlines in words.
 fn deadlines_told(ran: &Ran) -> String {
-    deadlines(ran).map_or("F, C and K".to_string(), |days| {
-        let [first, clearing, correction] = days.map(|day| ran.day(day));
+    opening(ran).map_or("F, C and K".to_string(), |call| {
+        let [first, clearing, correction] = DEADLINES.map(|name| call.day(name, ran.month.settled));
         format!("F, day {first}; C, day {clearing}; K, day {correction}")
     })
 }
@@ -306,8 +299,8 @@ fn data(ran: &Ran, figures: &str, reports: Option<&Reports>) -> String {
         .iter()
         .map(|row| format!("[{},{},{},{}]", row.day, row.point, row.run, row.version))
         .collect();
-    let days = deadlines(ran).map_or(String::new(), |days| {
-        days.map(|day| day.to_string()).join(",")
+    let days = opening(ran).map_or(String::new(), |call| {
+        DEADLINES.map(|name| call.field(name).to_string()).join(",")
     });
     let deviations = reports.map_or("null".to_string(), |reports| {
         deviation::data(replay, reports)

@@ -3,12 +3,14 @@
 use std::ffi::OsStr;
 use std::path::PathBuf;
 
+use crate::energies::{self, Limits, Style};
 use crate::input;
 use crate::library::GROUPS;
-use crate::lines::{self, unit_of, Given};
-use crate::numbers::{self, quoted, Limits};
+use crate::lines::{self, Given};
+use crate::numbers::{self, quoted};
 use crate::output::{self, Failure};
 use crate::series::Files;
+use crate::text::begins_call;
 
 /// The schedules of a month, by group.
 pub struct Schedules {
@@ -45,11 +47,27 @@ fn lodging(words: &[&str], quarters: usize, files: &mut Files) -> Result<(u64, V
         ));
     }
     let mut given = Given::read("lodge", &words[1..])?;
-    let unit = unit_of(given.take("unit"))?;
-    let fields = given.words(&["group", "energies"], None, ", unit")?;
+    let style = Style::take(&mut given)?;
+    let further = format!(", {}", energies::FIELDS);
+    let fields = given.words(&["group", "energies"], None, &further)?;
     let group = numbers::counting("group", fields[0], GROUPS)?;
-    let energies = numbers::energies(fields[1], unit, Limits::Schedule(quarters), files)?;
+    let energies = energies::read(fields[1], style, Limits::Schedule(quarters), files)?;
     Ok((group, energies))
+}
+
+/// What is said of a text in which no line begins with a schedule, where it has several lines.
+fn no_schedules(text: &[u8]) -> Option<String> {
+    let words: Vec<&[u8]> = lines::first_words(text).collect();
+    if words.len() < 2 || words.contains(&b"lodge".as_slice()) {
+        return None;
+    }
+    if words.iter().all(|word| begins_call(word)) {
+        return Some("is a month and no text of schedules, which has lines `lodge ..`".to_string());
+    }
+    Some(format!(
+        "is no text of schedules: none of its {} lines begins with `lodge`; a schedule names a file of series: energies=@FILE:COLUMN",
+        words.len()
+    ))
 }
 
 fn text_of(name: &OsStr) -> Result<Vec<u8>, Failure> {
@@ -80,7 +98,8 @@ pub fn read(name: &OsStr, quarters: usize) -> Result<Schedules, Failure> {
         Ok(())
     });
     if !complaints.is_empty() {
-        return Err(input::wrong(name, &lines::told(complaints)));
+        let told = no_schedules(&text).map_or_else(|| lines::told(complaints), |word| vec![word]);
+        return Err(input::wrong(name, &told));
     }
     if schedules.lodged.iter().all(Option::is_none) {
         output::warn(&format!("{}: has no schedule; each is 0", schedules.name));

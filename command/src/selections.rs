@@ -115,7 +115,7 @@ pub fn share(replay: &Replay, run: u64) -> String {
 
 /// When a run was closed and issued, and what is next where it is closed alone; nothing where it is not closed.
 pub fn note(ran: &Ran, run: u64) -> Option<String> {
-    let day_of = |kind| ran.day_of(kind, run).map(|day| ran.day(day));
+    let day_of = |kind| ran.call_on(kind, run).map(|call| ran.day_of(call));
     let closed = day_of(CLOSE)?;
     let rest = match day_of(ISSUE) {
         Some(issued) => format!(", issued on day {issued}"),

@@ -5,19 +5,15 @@ use std::fs;
 use std::path::{Path, PathBuf};
 use std::rc::Rc;
 
-use crate::numbers::{energy, quoted, Limits, Unit};
+use crate::calls::counted;
+use crate::energies::{Limits, Style};
+use crate::numbers::quoted;
 use crate::output;
+use crate::rows;
+use crate::table::{first_cell, lines, Table};
 
 /// The most line numbers that a complaint names.
 const NAMED: usize = 8;
-
-const BLANK: [char; 2] = [' ', '\t'];
-
-/// A csv: the names of its header, and the cells of its other lines, one line after the other.
-struct Table {
-    names: Vec<&'static str>,
-    cells: Vec<&'static str>,
-}
 
 /// Cells with the lines that they stand in.
 type Cells = Vec<(usize, &'static str)>;
@@ -46,109 +42,18 @@ fn text_of(path: &Path) -> Result<&'static str, String> {
     Ok(text.leak())
 }
 
-/// The lines of a text; the last line feed ends a line and begins none.
-fn lines(text: &'static str) -> impl Iterator<Item = (usize, &'static str)> {
-    let whole = text.strip_suffix('\n').unwrap_or(text);
-    let some = !text.is_empty();
-    (1..).zip(whole.split('\n').filter(move |_| some))
-}
-
-/// Where a quote closes: one that is doubled is part of the cell.
-fn closing(quoted: &str) -> Option<usize> {
-    let mut from = 0;
-    loop {
-        let at = from + quoted[from..].find('"')?;
-        if !quoted[at + 1..].starts_with('"') {
-            return Some(at);
-        }
-        from = at + 2;
-    }
-}
-
-/// The first cell of a line, without the quotes around it, and what stands behind it.
-fn first_cell(line: &str, mark: char) -> Result<(&str, &str), &'static str> {
-    if let Some(inside) = line.trim_start_matches(BLANK).strip_prefix('"') {
-        let end = closing(inside).ok_or("has a quote that is not closed")?;
-        return Ok((&inside[..end], inside[end + 1..].trim_start_matches(BLANK)));
-    }
-    let end = line.find(mark).unwrap_or(line.len());
-    Ok((line[..end].trim_matches(BLANK), &line[end..]))
-}
-
-/// The cells of a line.
-fn cells(line: &'static str, mark: char) -> Result<Vec<&'static str>, &'static str> {
-    let (mut cells, mut rest) = (Vec::new(), line);
-    loop {
-        let (cell, behind) = first_cell(rest, mark)?;
-        cells.push(cell);
-        match behind.strip_prefix(mark) {
-            Some(next) => rest = next,
-            None if behind.is_empty() => return Ok(cells),
-            None => return Err("goes on behind a closing quote"),
-        }
-    }
-}
-
-/// What stands between a header's cells: semicolons where it has one outside of quotes, else commas.
-fn mark_of(header: &str) -> char {
-    let outside = header.split('"').step_by(2);
-    if outside.into_iter().any(|part| part.contains(';')) {
-        ';'
-    } else {
-        ','
-    }
-}
-
-impl Table {
-    fn of(text: &'static str) -> Result<Table, String> {
-        let mut lines = lines(text);
-        let header = lines.next().map_or("", |(_, line)| line);
-        let mark = mark_of(header);
-        let names = cells(header, mark).map_err(|wrong| format!("line 1: {wrong}"))?;
-        let mut table = Table {
-            names,
-            cells: Vec::new(),
-        };
-        for (at, line) in lines {
-            let row = cells(line, mark).map_err(|wrong| format!("line {at}: {wrong}"))?;
-            if row.len() != table.names.len() {
-                return Err(format!(
-                    "line {at}: has {} cells, and the header {}",
-                    row.len(),
-                    table.names.len()
-                ));
-            }
-            table.cells.extend(row);
-        }
-        Ok(table)
-    }
-
-    /// Where a column stands.
-    fn place(&self, name: &str) -> Result<usize, String> {
-        let mut places = (0..self.names.len()).filter(|at| self.names[*at] == name);
-        match (places.next(), places.next()) {
-            (Some(at), None) => Ok(at),
-            (None, _) => Err(format!(
-                "line 1: has no column {}; its columns are {}",
-                quoted(name),
-                self.names.join(", ")
-            )),
-            _ => Err(format!("line 1: has two columns {}", quoted(name))),
-        }
-    }
-}
-
 /// The energies of lines of cells, in watt-hours; the first line that does not fit is told, and which others.
-fn energies_of(cells: Cells, unit: Unit, limits: Limits) -> Result<Vec<u64>, String> {
+fn energies_of(cells: &Cells, style: Style, limits: Limits) -> Result<Vec<u64>, String> {
     let (mut series, mut wrong) = (Vec::new(), Vec::new());
     for (line, cell) in cells {
-        match energy(cell, unit, limits) {
+        match style.energy(cell, limits) {
             Ok(number) => series.push(number),
+            Err(_) if cell.is_empty() => wrong.push((line, "has no energy".to_string())),
             Err(complaint) => wrong.push((line, complaint)),
         }
     }
     let Some((line, first)) = wrong.first() else {
-        return Ok(series);
+        return decided(cells, style).map(|()| series);
     };
     let named: Vec<String> = wrong[1..]
         .iter()
@@ -167,11 +72,35 @@ fn energies_of(cells: Cells, unit: Unit, limits: Limits) -> Result<Vec<u64>, Str
     Err(format!("line {line}: {first}{rest}"))
 }
 
+/// A column whose points can have one meaning alone.
+fn decided(cells: &Cells, style: Style) -> Result<(), String> {
+    let words: Vec<&str> = cells.iter().map(|(_, cell)| *cell).collect();
+    let Some((marked, bare)) = style.doubtful(&words) else {
+        return Ok(());
+    };
+    Err(format!(
+        "line {}: {} may have decimals or thousands: every number with a point has three digits behind it, and line {} has no point; say decimal=point or thousands=point",
+        cells[marked].0,
+        quoted(words[marked]),
+        cells[bare].0
+    ))
+}
+
 /// A file's name, and the column that stands behind it.
 pub fn parts(source: &str) -> (&str, Option<&str>) {
     match source.rsplit_once(':') {
         Some((name, column)) => (name, Some(column)),
         None => (source, None),
+    }
+}
+
+/// The lines that the energies of a file stand in.
+pub fn lines_of(source: &str, energies: usize) -> String {
+    let first = if parts(source).1.is_some() { 2 } else { 1 };
+    match energies {
+        0 => String::new(),
+        1 => format!(" (line {first})"),
+        more => format!(" (lines {first} to {})", first + more - 1),
     }
 }
 
@@ -200,22 +129,45 @@ impl Files {
     fn column(&mut self, name: &str, column: &str) -> Result<Cells, String> {
         let table = self.table(name)?;
         let place = table.place(column)?;
-        let rows = table.cells.chunks(table.names.len());
-        Ok((2..).zip(rows.map(|row| row[place])).collect())
+        Ok((2..).zip(table.column(place)).collect())
     }
 
     /// The numbers of a file with one a line.
     fn numbers(&mut self, name: &str) -> Result<Cells, String> {
         let only = |line| first_cell(line, '\n').map_or(line, |(cell, _)| cell);
-        let text = self.text(name)?;
-        Ok(lines(text).map(|(at, line)| (at, only(line))).collect())
+        let lines = lines(self.text(name)?)?.into_iter();
+        Ok(lines.map(|(at, line)| (at, only(line))).collect())
+    }
+
+    /// What is odd about the rows of a series that was read, with other energies than wanted.
+    pub fn odd(&self, source: &str, energies: usize, wanted: usize) -> String {
+        let (name, column) = parts(source);
+        let table = self.tables.get(name).and_then(|kept| kept.as_ref().ok());
+        let odd = table.zip(column).and_then(|(table, column)| {
+            rows::odd(table, table.place(column).ok()?, energies > wanted)
+        });
+        odd.map_or(String::new(), |odd| format!(": {odd}"))
+    }
+
+    /// A series with as many energies as it may have.
+    fn fitting(&self, source: &str, series: Vec<u64>, limits: Limits) -> Result<Vec<u64>, String> {
+        let energies = series.len();
+        let Some((wanted, words)) = limits.unlike(energies) else {
+            return Ok(series);
+        };
+        let (lines, odd) = (
+            lines_of(source, energies),
+            self.odd(source, energies, wanted),
+        );
+        let energies = counted(energies, "energ", "y", "ies");
+        Err(format!("{energies}{lines}, and {words}{odd}"))
     }
 
     /// The energies of `FILE`, with a number a line, or of `FILE:COLUMN`.
     pub fn energies(
         &mut self,
         source: &str,
-        unit: Unit,
+        style: Style,
         limits: Limits,
     ) -> Result<Vec<u64>, String> {
         let (name, cells) = match parts(source) {
@@ -229,8 +181,8 @@ impl Files {
             ));
         }
         cells
-            .and_then(|cells| energies_of(cells, unit, limits))
-            .and_then(|series| limits.counted(series))
+            .and_then(|cells| energies_of(&cells, style, limits))
+            .and_then(|series| self.fitting(source, series, limits))
             .map_err(|wrong| format!("{name}: {wrong}"))
     }
 }

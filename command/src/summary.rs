@@ -1,12 +1,13 @@
 //! `desk run`: what was refused and why, then the month in short.
 
 use crate::arguments::Wanted;
+use crate::calendar;
 use crate::calls::counted;
 use crate::deltas;
 use crate::library::{LogRow, Replay, GROUPS};
 use crate::month::{self, Ran};
 use crate::output::{self, Failure};
-use crate::refusals::{self, Refusal};
+use crate::refusals::{Refusals, TOLD};
 use crate::selections;
 use crate::{ACCEPTED, REFUSED};
 
@@ -63,9 +64,16 @@ fn count(number: usize, what: &str) -> String {
     counted(number, what, "", "s")
 }
 
-fn told(refusals: &[Refusal], paint: &Paint) -> String {
+/// What was refused: where to look first, then the calls, then how many more there are.
+fn told(refusals: &Refusals, name: &str, paint: &Paint) -> String {
     let mut text = String::new();
-    for refusal in refusals {
+    for line in refusals.sources() {
+        text.push_str(&format!("{}\n", paint.bold(&line)));
+    }
+    if !text.is_empty() {
+        text.push('\n');
+    }
+    for refusal in &refusals.told {
         let line = refusal.line();
         let (front, back) = line.split_once(": refused, ").unwrap_or((&line, ""));
         text.push_str(&format!(
@@ -75,14 +83,8 @@ fn told(refusals: &[Refusal], paint: &Paint) -> String {
         text.push_str(&paint.faint(&format!("    to mend it: {}", refusal.mend)));
         text.push('\n');
     }
-    for (call, times) in refusals::sources(refusals) {
-        let line = format!(
-            "{} of these come from {}: {}; look there first",
-            times,
-            call.place.short(),
-            call.title()
-        );
-        text.push_str(&format!("{}\n", paint.bold(&line)));
+    for line in refusals.more(name) {
+        text.push_str(&format!("{}\n", paint.red(&line)));
     }
     if !text.is_empty() {
         text.push('\n');
@@ -104,7 +106,7 @@ impl Change {
             version,
             ..
         } = self.row;
-        let day = ran.day(self.row.day);
+        let day = calendar::told(self.row.day, ran.log_date(&self.row));
         let old = self.before.version;
         let of = if self.before.run == run {
             ""
@@ -263,7 +265,7 @@ pub fn headline(ran: &Ran) -> String {
     }
     format!(
         "{calls}, {refused}; day {}; {}; {}",
-        ran.day(replay.day),
+        ran.desk_day(),
         runs(replay),
         count(replay.quarters, "quarter hour")
     )
@@ -275,8 +277,9 @@ pub fn run(wanted: &Wanted) -> Result<i32, Failure> {
     let paint = Paint {
         on: output::colours(),
     };
-    let refusals = refusals::of(&ran);
-    let mut text = told(&refusals, &paint);
+    let most = if wanted.all { usize::MAX } else { TOLD };
+    let refusals = Refusals::of(&ran, most);
+    let mut text = told(&refusals, &ran.month.source, &paint);
     if let Some(damage) = ran.damage() {
         text.push_str(&format!(
             "{}\n\n",
@@ -291,7 +294,7 @@ pub fn run(wanted: &Wanted) -> Result<i32, Failure> {
         paint.red(&headline)
     });
     text.push('\n');
-    if let Some(first) = refusals.first().filter(|_| status == REFUSED) {
+    if let Some(first) = refusals.told.first().filter(|_| status == REFUSED) {
         text.push_str(&format!(
             "the first refused: {}\n",
             first.call.place.whole()

@@ -1,29 +1,30 @@
-//! Months as text: one call a line with its fields by name, packed to a message file and printed from one.
+//! Months as text: one call a line with its fields by name, packed to a message file.
 
 use std::io::{self, IsTerminal};
 use std::path::Path;
 
 use crate::arguments::Wanted;
-use crate::calendar::{self, Month};
-use crate::calls::{is_day, Call, Place, KINDS, OPEN, SUBMIT};
+use crate::calendar::Month;
+use crate::calls::{Call, Place, Typed, KINDS, OPEN, SUBMIT};
 use crate::dates::Dates;
-use crate::library::{self, Read, Reader};
-use crate::lines::{self, unit_of, Given};
-use crate::numbers::{self, quoted, shortened, Limits};
+use crate::energies::{self, Limits, Style};
+use crate::library;
+use crate::lines::{self, Given};
+use crate::numbers::{self, quoted, shortened};
 use crate::output::{self, Failure};
 use crate::series::Files;
-use crate::{causes, guard, input, ACCEPTED, NOTHING, REFUSED};
+use crate::{causes, guard, input, ACCEPTED};
 
 /// The numbers of the fields named, each by a date, by its name or in digits.
 fn numbers_of<'a>(
     given: Given<'a>,
-    names: &[&str],
+    names: &[&'static str],
     others: Option<&'a str>,
     further: &str,
     dates: &mut Dates,
 ) -> Result<Vec<u64>, String> {
     let words = given.words(names, others, further)?;
-    let mut number = |name: &str, word: &str| {
+    let mut number = |name: &'static str, word: &str| {
         let date = dates.number(name, word);
         date.unwrap_or_else(|| numbers::field(name, word))
     };
@@ -37,22 +38,36 @@ struct Around {
     dates: Dates,
 }
 
-/// A submission's fields and its energies.
+/// The call of a line: its kind, its fields, and of a submission the energies with the file that they stand in.
+struct Line {
+    kind: u64,
+    fields: Vec<u64>,
+    energies: Vec<u64>,
+    source: Option<String>,
+}
+
+/// A submission.
 fn submission(
     mut given: Given,
-    names: &[&str],
+    names: &[&'static str],
     files: &mut Files,
     dates: &mut Dates,
-) -> Result<(Vec<u64>, Vec<u64>), String> {
-    let unit = unit_of(given.take("unit"))?;
+) -> Result<Line, String> {
+    let style = Style::take(&mut given)?;
     let series = given.take("energies");
-    let fields = numbers_of(given, names, None, ", energies, unit", dates);
+    let further = format!(", energies, {}", energies::FIELDS);
+    let fields = numbers_of(given, names, None, &further, dates);
     let Some(series) = series else {
         return Err(fields.err().unwrap_or("submit lacks energies".to_string()));
     };
     let fields = fields?;
-    let energies = numbers::energies(series, unit, Limits::File, files)?;
-    Ok((fields, energies))
+    let energies = energies::read(series, style, Limits::File, files)?;
+    Ok(Line {
+        kind: SUBMIT,
+        fields,
+        energies,
+        source: series.strip_prefix('@').map(str::to_string),
+    })
 }
 
 /// What is to be written for `settle`, with the run and the day of its line. A date there is one of the text's.
@@ -82,36 +97,31 @@ fn no_call(words: &[&str], dates: &mut Dates) -> String {
     )
 }
 
-/// A line's call and its energies.
-fn call_of(words: &[&str], around: &mut Around) -> Result<(u64, Vec<u64>, Vec<u64>), String> {
+/// A line's call.
+fn call_of(words: &[&str], around: &mut Around) -> Result<Line, String> {
     let Some(at) = KINDS.iter().position(|kind| kind.name == words[0]) else {
         return Err(no_call(words, &mut around.dates));
     };
     let (kind, form) = (at as u64 + 1, &KINDS[at]);
     let mut given = Given::read(form.name, &words[1..])?;
     let Around { files, dates } = around;
-    match kind {
+    let fields = match kind {
         OPEN => {
             let others = given.take("others");
             if let Some(word) = others {
                 numbers::field("others", word)?;
             }
-            Ok((
-                kind,
-                numbers_of(given, form.fields, others, ", others", dates)?,
-                Vec::new(),
-            ))
+            numbers_of(given, form.fields, others, ", others", dates)?
         }
-        SUBMIT => {
-            let (fields, energies) = submission(given, form.fields, files, dates)?;
-            Ok((kind, fields, energies))
-        }
-        _ => Ok((
-            kind,
-            numbers_of(given, form.fields, None, "", dates)?,
-            Vec::new(),
-        )),
-    }
+        SUBMIT => return submission(given, form.fields, files, dates),
+        _ => numbers_of(given, form.fields, None, "", dates)?,
+    };
+    Ok(Line {
+        kind,
+        fields,
+        energies: Vec::new(),
+        source: None,
+    })
 }
 
 /// The call of a line, written behind the bytes of a file; a line without words has none, and one that names the month.
@@ -128,14 +138,48 @@ fn packed_line(
         [word, ..] if word.starts_with("month=") => return around.dates.name(&[]).map(|()| None),
         _ => {}
     }
-    let (kind, fields, energies) = call_of(words, around)?;
-    library::write(kind, &fields, &energies, file).map_err(causes::meaning)?;
+    let line = call_of(words, around);
+    let days_off = around.dates.take_days_off();
+    let line = line?;
+    library::write(line.kind, &line.fields, &line.energies, file).map_err(causes::meaning)?;
     Ok(Some(Call {
         place,
-        kind,
-        fields,
-        energies: energies.len(),
+        kind: line.kind,
+        fields: line.fields,
+        energies: line.energies.len(),
+        typed: (line.source.is_some() || !days_off.is_empty()).then(|| {
+            Box::new(Typed {
+                source: line.source,
+                days_off,
+            })
+        }),
     }))
+}
+
+/// Whether a line begins as one of a month does.
+pub fn begins_call(word: &[u8]) -> bool {
+    let is_kind = KINDS.iter().any(|kind| kind.name.as_bytes() == word);
+    is_kind || word == b"settle" || word == b"month" || word.starts_with(b"month=")
+}
+
+/// What is said of a text in which no line begins with a call, where it has several lines.
+fn no_month(text: &[u8]) -> Option<String> {
+    let words: Vec<&[u8]> = lines::first_words(text).collect();
+    if words.len() < 2 || words.iter().any(|word| begins_call(word)) {
+        return None;
+    }
+    if words.iter().all(|word| *word == b"lodge") {
+        return Some(
+            "is a text of schedules and no month; desk report takes the month, then the schedules"
+                .to_string(),
+        );
+    }
+    let names: Vec<&str> = KINDS.iter().map(|kind| kind.name).collect();
+    Some(format!(
+        "is no text of calls: none of its {} lines begins with one ({}); a submission names a file of series: energies=@FILE:COLUMN",
+        words.len(),
+        names.join(", ")
+    ))
 }
 
 /// The message file of a text, with its calls and the month that it names.
@@ -143,6 +187,7 @@ pub struct Packed {
     pub file: Vec<u8>,
     pub calls: Vec<Call>,
     pub month: Option<Month>,
+    pub files: Files,
 }
 
 /// A text, packed; `asked` is the month of `--month`. Or what is wrong with each bad line.
@@ -163,10 +208,14 @@ pub fn packed(text: &[u8], folder: &Path, asked: Option<Month>) -> Result<Packed
     });
     complaints.extend(around.dates.complaint());
     if complaints.is_empty() {
-        let month = around.dates.month();
-        return Ok(Packed { file, calls, month });
+        return Ok(Packed {
+            file,
+            calls,
+            month: around.dates.month(),
+            files: around.files,
+        });
     }
-    Err(lines::told(complaints))
+    Err(no_month(text).map_or_else(|| lines::told(complaints), |word| vec![word]))
 }
 
 /// `desk pack`.
@@ -189,67 +238,4 @@ pub fn pack(wanted: &Wanted) -> Result<i32, Failure> {
     }
     guard::deliver(wanted, &month.series, &month.file)?;
     Ok(ACCEPTED)
-}
-
-/// A call as a line; days as dates where the month is known.
-fn line_of(call: &Call, reader: &Reader, month: Option<Month>) -> String {
-    let mut line = call.form().name.to_string();
-    for (name, number) in call.form().fields.iter().zip(&call.fields) {
-        let month = month.filter(|_| is_day(name));
-        let date = calendar::dated(month, *number);
-        let shown = date.map_or_else(|| call.word(name), |date| date.to_string());
-        line.push_str(&format!(" {name}={shown}"));
-    }
-    if call.kind == SUBMIT {
-        let energies: Vec<String> = reader
-            .energies(call.energies)
-            .map(|energy| energy.to_string())
-            .collect();
-        line.push_str(" energies=");
-        line.push_str(if energies.is_empty() { "none" } else { "" });
-        line.push_str(&energies.join(","));
-    }
-    line
-}
-
-/// `desk print`.
-pub fn print(wanted: &Wanted) -> Result<i32, Failure> {
-    let bytes = input::read(&wanted.file)?;
-    let (file, month, series) = if input::is_text(&bytes) {
-        let month = input::packed(wanted, &bytes)?;
-        (month.file, month.settled, month.series)
-    } else {
-        (bytes, wanted.month, Vec::new())
-    };
-    let named = month.map_or(String::new(), |month| format!("month {month}\n"));
-    let mut reader = Reader::new(&file);
-    let mut text = String::new();
-    let status = loop {
-        match reader.next() {
-            Read::Call(call) => {
-                let offset = call.offset;
-                text.push_str(&format!(
-                    "{}  # offset {offset}\n",
-                    line_of(&call.into(), &reader, month)
-                ));
-            }
-            Read::End => break ACCEPTED,
-            Read::Refused(number, offset) => {
-                let status = if text.is_empty() { NOTHING } else { REFUSED };
-                text.push_str(&format!(
-                    "# refused with {number} at offset {offset}: {}\n",
-                    causes::meaning(number)
-                ));
-                break status;
-            }
-        }
-    };
-    if file.is_empty() {
-        output::warn(&format!(
-            "{}: is empty: it has no calls",
-            input::shown(&wanted.file)
-        ));
-    }
-    guard::deliver(wanted, &series, (named + &text).as_bytes())?;
-    Ok(status)
 }
