@@ -1,6 +1,7 @@
 // Runs the script of a page of `desk page` over a stand-in for a browser's document, clicks, and compares what it draws and tells with the lists:
-// heat maps, a group's curve on a click, the timeline, what each run selects, the deltas with their group in each run; a sorted column keeps ties in the list's
-// order and each row whole. With schedules, in watt-hours and on their lines, also the bars and the table of surplus and shortfall, and the schedule beside a curve.
+// heat maps of both runs by one scale and of their difference, a group's curve on a click, the timeline, what each run selects, the deltas with their group in
+// each run; a sorted column keeps ties in the list's order and each row whole. With schedules, in watt-hours and on their lines, also the bars and the table of
+// surplus and shortfall, and the schedule beside a curve.
 //
 //     node page.js PAGE FIGURES POINTS LOG RUNS DELTAS [REPORT SCHEDULES]        the lists as csv, figures with --all
 "use strict";
@@ -66,7 +67,7 @@ class Canvas {
 const width = 640;
 const tables = [...page.matchAll(/<table.*?<\/table>/gs)].map((found) => tableOf(found[0]));
 const elements = { data: { textContent: page.match(/id="data">(.*?)<\/script>/s)[1] }, which: {}, told: {} };
-for (const name of ["heat1", "heat2", "curve", "time"]) elements[name] = new Canvas(width);
+for (const name of ["heat1", "heat2", "heat3", "curve", "time"]) elements[name] = new Canvas(width);
 if (page.includes('id="deviation"')) Object.assign(elements, { deviation: new Canvas(width), deviated: {} });
 const groupRows = () => tables.flatMap((table) => table.tBodies[0].rows).filter((row) => row.dataset.group !== undefined);
 const nobody = { addEventListener() {} };
@@ -89,34 +90,49 @@ const Q = figures.length / 128;
 
 // ---- heat maps
 
-function heat(run) {
-  const rectangles = elements["heat" + (run + 1)].rectangles.filter(({ colour }) => colour === "--more" || colour === "--less");
-  const tops = [...new Set(rectangles.map(({ y }) => y))].sort((a, b) => a - b);
+// The rows that each map draws: run 1, run 2, and the difference.
+const maps = [wanted[0], wanted[1], Object.fromEntries(groups.map((group) => [group, wanted[1][group].map((figure, q) => figure - wanted[0][group][q])]))];
+const high = groups.length > 40 ? 8 : groups.length > 12 ? 11 : 18;
+
+// The cells of a group's row in a map, each with the size of the figure and how strong it is drawn.
+function cellsOn(map, group, at) {
   const left = 26, cells = Math.min(Q, width - left), size = (width - left) / cells;
-  const high = groups.length > 40 ? 8 : groups.length > 12 ? 11 : 18;
+  const rectangles = elements["heat" + (map + 1)].rectangles.filter(({ colour, y }) => (colour === "--more" || colour === "--less") && y === at * high);
+  const drawn = new Map(rectangles.map((one) => [Math.round((one.x - left) / size), one]));
+  const row = maps[map][group], strengths = [];
+  for (let cell = 0; cell < cells; cell++) {
+    const part = row.slice(Math.floor(cell * Q / cells), Math.floor((cell + 1) * Q / cells));
+    const figure = part.reduce((best, one) => Math.abs(one) > Math.abs(best) ? one : best, 0);
+    const one = drawn.get(cell);
+    assert.strictEqual(one === undefined, figure === 0, `heat map ${map + 1}, group ${group}, cell ${cell}`);
+    if (one === undefined) continue;
+    assert.strictEqual(one.colour, figure > 0 ? "--more" : "--less");
+    assert(one.strength > 0 && one.strength <= 1);
+    strengths.push([Math.abs(figure), one.strength]);
+    drawn.delete(cell);
+  }
+  assert.strictEqual(drawn.size, 0);
+  return strengths;
+}
+
+// By one scale: the stronger the larger, alike where they are alike; the largest is full where they differ.
+function oneScale(strengths, rows, name) {
+  strengths.sort((a, b) => a[0] - b[0]);
+  for (let i = 1; i < strengths.length; i++) assert.strictEqual(Math.sign(strengths[i][1] - strengths[i - 1][1]), Math.sign(strengths[i][0] - strengths[i - 1][0]), name);
+  const most = rows.flat().reduce((best, figure) => Math.max(best, Math.abs(figure)), 0);
+  if (strengths.length > 1 && strengths[0][0] < most) assert(Math.abs(strengths[strengths.length - 1][1] - 1) < 1e-9, name);
+}
+
+function heats() {
   groups.forEach((group, at) => {
-    const drawn = new Map(rectangles.filter(({ y }) => y === at * high).map((one) => [Math.round((one.x - left) / size), one]));
-    const row = wanted[run][group], most = Math.max(...row.map(Math.abs));
-    const strengths = [];
-    for (let cell = 0; cell < cells; cell++) {
-      const part = row.slice(Math.floor(cell * Q / cells), Math.floor((cell + 1) * Q / cells));
-      const figure = part.reduce((best, one) => Math.abs(one) > Math.abs(best) ? one : best, 0);
-      const one = drawn.get(cell);
-      assert.strictEqual(one === undefined, figure === 0, `heat map, run ${run + 1}, group ${group}, cell ${cell}`);
-      if (one === undefined) continue;
-      assert.strictEqual(one.colour, figure > 0 ? "--more" : "--less");
-      assert(one.strength > 0 && one.strength <= 1);
-      strengths.push([Math.abs(figure), one.strength]);
-      drawn.delete(cell);
-    }
-    assert.strictEqual(drawn.size, 0);
-    // The stronger the larger; the largest is full where they differ.
-    strengths.sort((a, b) => a[0] - b[0]);
-    for (let i = 1; i < strengths.length; i++) assert.strictEqual(Math.sign(strengths[i][1] - strengths[i - 1][1]), Math.sign(strengths[i][0] - strengths[i - 1][0]));
-    if (strengths.length > 1 && strengths[0][0] < most) assert(Math.abs(strengths[strengths.length - 1][1] - 1) < 1e-9);
+    const [first, second, difference] = [0, 1, 2].map((map) => cellsOn(map, group, at));
+    oneScale([...first, ...second], [maps[0][group], maps[1][group]], `both runs of group ${group}`);
+    oneScale(difference, [maps[2][group]], `the difference of group ${group}`);
   });
-  assert(tops.every((y) => y % high === 0 && y / high < groups.length));
-  return high;
+  for (const name of ["heat1", "heat2", "heat3"]) {
+    const drawn = elements[name].rectangles.filter(({ colour }) => colour === "--more" || colour === "--less");
+    assert(drawn.every(({ y }) => y % high === 0 && y / high < groups.length));
+  }
 }
 
 // ---- a group's curve
@@ -306,8 +322,7 @@ assert.deepStrictEqual(selectedTable.tBodies[0].rows.map((row) => row.cells.map(
 for (const [table, list] of [[pointTable, points], [logTable, log]]) assert.deepStrictEqual(listed(table, list), list.map((row) => Object.values(row).join()));
 runs.forEach(told);
 timeline();
-const high = heat(0);
-heat(1);
+heats();
 if (groups.length > 0) curve(Number(groups[0]));
 if (report !== undefined) deviations();
 const some = groups.filter((_, at) => at % Math.ceil(groups.length / 8) === 0);
@@ -315,7 +330,7 @@ for (const group of some) {
   groupRows().find((row) => row.dataset.group === group).onclick();
   curve(Number(group));
 }
-for (const group of some) for (const name of ["heat1", "heat2"]) {
+for (const group of some) for (const name of ["heat1", "heat2", "heat3"]) {
   elements[name].onclick({ offsetY: (groups.indexOf(group) + 0.5) * high });
   assert.strictEqual(elements.which.textContent, "group " + group);
 }
