@@ -36,10 +36,7 @@ impl<'a> Before<'a> {
         let front = front.map_or(by.clone(), |front| front.place.short());
         (
             format!("day {given} lies before the desk's day {least}, which {by} set"),
-            format!(
-                "put it in front of {front}, or give it day {least} or later; {}",
-                self.mistake()
-            ),
+            format!("put it in front of {front}; {}", self.mistake()),
             self.day,
         )
     }

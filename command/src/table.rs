@@ -117,7 +117,8 @@ impl Table {
 
     /// A row of quarter hours: with as many cells as the header has, and no sums.
     fn fitted(&self, row: Vec<&'static str>) -> Result<Vec<&'static str>, String> {
-        if let Some(cell) = row.iter().find(|cell| is_sum(cell)) {
+        let first = row.iter().find(|cell| !cell.is_empty());
+        if let Some(cell) = first.filter(|cell| is_sum(cell)) {
             let cell = quoted(cell);
             return Err(format!(
                 "has sums and is no quarter hour: {cell}; take it away"

@@ -7,7 +7,7 @@ use crate::library::{self, Reader, Replay};
 use crate::month::Ran;
 
 /// How many bytes are run again at most, and how many a trial and a call of it count beside their own.
-const WORK: usize = 128 << 20;
+const WORK: usize = 256 << 20;
 const TRIAL: usize = 256 << 10;
 const CALL: usize = 32;
 
