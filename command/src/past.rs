@@ -55,22 +55,24 @@ impl<'a> Before<'a> {
         let mistake = self.mistake();
         let day = self.shown(least);
         let cost = self.cost(call, least, &later.replay);
-        Some(
-            match (moved.answer == 0 && moved.keeps, later.answer, cost) {
-                (true, 0, Some(cost)) => format!("{}; a later day {cost}; {mistake}", above(front)),
-                (true, 0, None) => {
-                    format!("{}, or give it day {day} or later; {mistake}", above(front))
-                }
-                (true, _, _) => format!("{}; {mistake}", above(front)),
-                (false, 0, Some(cost)) => {
-                    format!("give it day {day} or later, which {cost}; {mistake}")
-                }
-                (false, 0, None) => format!("give it day {day} or later; {mistake}"),
-                (false, cause, _) => {
-                    format!("{mistake}; on a later day it is refused with {cause}")
-                }
-            },
-        )
+        let moves = moved.answer == 0 && moved.keeps;
+        Some(match (moves, later.answer, later.keeps, cost) {
+            (true, 0, true, Some(cost)) => {
+                format!("{}; a later day {cost}; {mistake}", above(front))
+            }
+            (true, 0, true, None) => {
+                format!("{}, or give it day {day} or later; {mistake}", above(front))
+            }
+            (true, ..) => format!("{}; {mistake}", above(front)),
+            (_, 0, true, Some(cost)) => {
+                format!("give it day {day} or later, which {cost}; {mistake}")
+            }
+            (_, 0, true, None) => format!("give it day {day} or later; {mistake}"),
+            (_, 0, false, _) => format!(
+                "{mistake}; on day {day} it is accepted, and a call below it is refused then"
+            ),
+            (_, cause, ..) => format!("{mistake}; on a later day it is refused with {cause}"),
+        })
     }
 
     /// The first later day on which the call has a chance, and the month then.
