@@ -36,46 +36,47 @@ pass-map n f (got a r) = refl
 pass-map n f (refused x) = refl
 
 -- what follows the fields
-module _ (s : List ℕ) (at k : ℕ) where
-  pub tail-not : at ≤ length s → (k ≡ submission → ⊥) → To at ≡ passedOf (length s) (tailIn mostQuarters k (drop at s))
+module _ (room : ℕ) (s : List ℕ) (at k : ℕ) where
+  pub tail-not : at ≤ length s → (k ≡ submission → ⊥) → To at ≡ passedOf (length s) (tailIn room k (drop at s))
   tail-not h n = rw (ne-eqb k submission n, offset-is s at h)
 
-  pub tail-count : {x : FileCause} → k ≡ submission → numberOf itself (length s) (countIn mostQuarters (drop at s)) ≡ NoNumber x →
-      NotPassed x ≡ passedOf (length s) (tailIn mostQuarters k (drop at s))
-  tail-count e c = rw (eq-eqb k submission e, number-not (length s) (countIn mostQuarters (drop at s)) itself c)
+  pub tail-count : {x : FileCause} → k ≡ submission → numberOf itself (length s) (countIn room (drop at s)) ≡ NoNumber x →
+      NotPassed x ≡ passedOf (length s) (tailIn room k (drop at s))
+  tail-count e c = rw (eq-eqb k submission e, number-not (length s) (countIn room (drop at s)) itself c)
 
-  pub tail-numbers : {v n : ℕ} {r : Passed} → k ≡ submission → Counted s at mostQuarters v n → r ≡ passedOf (length s) (numbersIn v (drop n s)) →
-      r ≡ passedOf (length s) (tailIn mostQuarters k (drop at s))
+  pub tail-numbers : {v n : ℕ} {r : Passed} → k ≡ submission → Counted s at room v n → r ≡ passedOf (length s) (numbersIn v (drop n s)) →
+      r ≡ passedOf (length s) (tailIn room k (drop at s))
   tail-numbers {v} {n} e w p = rw (eq-eqb k submission e, w .is) (p ∙ pass-map (length s) (map received) (numbersIn v (drop n s)))
 
 -- a call behind its kind
-pub kind-bad : (s : List ℕ) («from» k : ℕ) → isKind k ≡ false → NotPassed BadKind ≡ passedOf (length s) (kindIn mostQuarters k (drop «from» s))
-kind-bad s «from» k e = rw e
+pub kind-bad : (room : ℕ) (s : List ℕ) («from» k : ℕ) → isKind k ≡ false → NotPassed BadKind ≡ passedOf (length s) (kindIn room k (drop «from» s))
+kind-bad room s «from» k e = rw e
 
-module _ (s : List ℕ) («from» k : ℕ) (known : isKind k ≡ true) {m : ℕ} (count : m ≡ fieldsOf k) where
-  pub kind-not : {x : FileCause} → passedOf (length s) (numbersIn m (drop «from» s)) ≡ NotPassed x → NotPassed x ≡ passedOf (length s) (kindIn mostQuarters k (drop «from» s))
+-- the fields that were passed
+pub fields-placed : (s : List ℕ) («from» m : ℕ) {after : ℕ} → «from» ≤ length s → passedOf (length s) (numbersIn m (drop «from» s)) ≡ To after → Placed m s «from» (numbersIn m (drop «from» s)) after
+fields-placed s «from» m h e = passed-to m s «from» (numbersIn m (drop «from» s)) h (λ a r p. numbers-read m (drop «from» s) p .behind) e
+
+module _ (room : ℕ) (s : List ℕ) («from» k : ℕ) (known : isKind k ≡ true) {m : ℕ} (count : m ≡ fieldsOf k) where
+  pub kind-not : {x : FileCause} → passedOf (length s) (numbersIn m (drop «from» s)) ≡ NotPassed x → NotPassed x ≡ passedOf (length s) (kindIn room k (drop «from» s))
   kind-not e = rw (known, sym count, passed-not (length s) (numbersIn m (drop «from» s)) e)
 
-  pub fields-placed : {after : ℕ} → «from» ≤ length s → passedOf (length s) (numbersIn m (drop «from» s)) ≡ To after → Placed m s «from» (numbersIn m (drop «from» s)) after
-  fields-placed h e = passed-to m s «from» (numbersIn m (drop «from» s)) h (λ a r p. numbers-read m (drop «from» s) p .behind) e
-
-  pub kind-goes : {after : ℕ} {r : Passed} → Placed m s «from» (numbersIn m (drop «from» s)) after → r ≡ passedOf (length s) (tailIn mostQuarters k (drop after s)) →
-      r ≡ passedOf (length s) (kindIn mostQuarters k (drop «from» s))
+  pub kind-goes : {after : ℕ} {r : Passed} → Placed m s «from» (numbersIn m (drop «from» s)) after → r ≡ passedOf (length s) (tailIn room k (drop after s)) →
+      r ≡ passedOf (length s) (kindIn room k (drop «from» s))
   kind-goes {after} w p =
       rw (known, sym count, w .is)
-      (p ∙ pass-map (length s) (λ (es : List ℤ). record { kind = k; fields = w .value; energies = es }) (tailIn mostQuarters k (drop after s)))
+      (p ∙ pass-map (length s) (λ (es : List ℤ). record { kind = k; fields = w .value; energies = es }) (tailIn room k (drop after s)))
 
 -- a call
-pub call-goes : (s : List ℕ) (at : ℕ) {k n : ℕ} {r : Passed} → numberAt s at ≡ Number k n → r ≡ passedOf (length s) (kindIn mostQuarters k (drop n s)) →
-    r ≡ passedOf (length s) (parse mostQuarters (drop at s))
-call-goes s at e p = rw (found s at e .decoded) p
+pub call-goes : (room : ℕ) (s : List ℕ) (at : ℕ) {k n : ℕ} {r : Passed} → numberAt s at ≡ Number k n → r ≡ passedOf (length s) (kindIn room k (drop n s)) →
+    r ≡ passedOf (length s) (parse room (drop at s))
+call-goes room s at e p = rw (found s at e .decoded) p
 
 -- a kind of one byte
 pub kind-at : (s : List ℕ) (at : ℕ) {k : ℕ} → at < length s → k ≡ getD s at 0 → isKind k ≡ true → numberAt s at ≡ Number k (at + 1)
 kind-at s at {k} h q e = sym (only-at s at h q (omega (arith, leb-true k kinds (and-right (leb 1 k) (leb k kinds) e))))
 
-pub call-not : (s : List ℕ) (at : ℕ) {x : FileCause} → numberAt s at ≡ NoNumber x → NotPassed x ≡ passedOf (length s) (parse mostQuarters (drop at s))
-call-not s at e = rw (found-not s at e)
+pub call-not : (room : ℕ) (s : List ℕ) (at : ℕ) {x : FileCause} → numberAt s at ≡ NoNumber x → NotPassed x ≡ passedOf (length s) (parse room (drop at s))
+call-not room s at e = rw (found-not s at e)
 
 -- the calls before `at` are read: the verdict is that on the bytes from there on
 abbrev on : (length : ℕ) → Found → FileVerdict

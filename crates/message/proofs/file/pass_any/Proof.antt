@@ -19,10 +19,10 @@ enum-known-cause : tie.Need-enum-known-cause
 enum-known-cause c = search needs
 
 returns : tie.Need-returns
-returns c = call-goes (c .before .before .before .before .before .before .args .file .now) (c .before .before .before .before .before .before .args .at) (sym (c .before .before .before .before .read-number .ensures) ∙ c .before .before .value .given .1) (c .pass-kind .ensures)
+returns c = call-goes (c .before .before .before .before .before .before .args .room) (c .before .before .before .before .before .before .args .file .now) (c .before .before .before .before .before .before .args .at) (sym (c .before .before .before .before .read-number .ensures) ∙ c .before .before .value .given .1) (c .pass-kind .ensures)
 
 returns-2 : tie.Need-returns-2
-returns-2 c = call-not (c .before .before .before .before .before .args .file .now) (c .before .before .before .before .before .args .at) (sym (c .before .before .before .read-number .ensures) ∙ c .before .cause .given .1)
+returns-2 c = call-not (c .before .before .before .before .before .args .room) (c .before .before .before .before .before .args .file .now) (c .before .before .before .before .before .args .at) (sym (c .before .before .before .read-number .ensures) ∙ c .before .cause .given .1)
 
 pub pass-any-spec : {M : Type 1} → statement M
 pass-any-spec =

@@ -4,6 +4,7 @@ use Prim.Native.Nat.{_+_}
 use mathlib.Core.Path.{sym, _∙_}
 use native.Mathlib.Omega.{arith}
 use borrow.Author.Tests.{not-false}
+use Rattle.quantity.specs.Limits.{mostQuarters}
 use Rattle.message.proofs.Calls.{fields-few}
 use Rattle.message.proofs.FileSteps.{kind-not, fields-placed, kind-goes, kind-at, call-goes}
 use Rattle.message.proofs.file.pass_call.Statement.{statement}
@@ -46,16 +47,16 @@ enum-known-after : tie.Need-enum-known-after
 enum-known-after c = search needs
 
 pass-tail-requires : tie.Need-pass-tail-requires
-pass-tail-requires c κs = (fields-placed (c .before .before .before .before .before .before .before .before .before .before .before .args .file .now) (c .before .before .before .before .before .before .before .before .before .before .before .args .at + 1) (c .before .before .before .before .before .before .before .wide .result) (sym (c .before .before .before .before .before .before .kind-ok .ensures) ∙ not-false _ (c .before .before .before .before .before .if2 .left)) (c .before .before .before .before .fields-of .ensures) (omega arith) (sym (c .before .before .before .pass-inside .ensures) ∙ c .before .after .given .1)) .within
+pass-tail-requires c κs = (fields-placed (c .before .before .before .before .before .before .before .before .before .before .before .args .file .now) (c .before .before .before .before .before .before .before .before .before .before .before .args .at + 1) _ (omega arith) (sym (c .before .before .before .pass-inside .ensures) ∙ c .before .after .given .1)) .within
 
 enum-known-cause : tie.Need-enum-known-cause
 enum-known-cause c = search needs
 
 returns-3 : tie.Need-returns-3
-returns-3 c = call-goes (c .before .before .before .before .before .before .before .before .before .before .before .before .args .file .now) (c .before .before .before .before .before .before .before .before .before .before .before .before .args .at) (kind-at (c .before .before .before .before .before .before .before .before .before .before .before .before .args .file .now) (c .before .before .before .before .before .before .before .before .before .before .before .before .args .at) (omega arith) (c .before .before .before .before .before .before .before .before .wide .ensures .0) (sym (c .before .before .before .before .before .before .before .kind-ok .ensures) ∙ not-false _ (c .before .before .before .before .before .before .if2 .left))) (kind-goes (c .before .before .before .before .before .before .before .before .before .before .before .before .args .file .now) (c .before .before .before .before .before .before .before .before .before .before .before .before .args .at + 1) (c .before .before .before .before .before .before .before .before .wide .result) (sym (c .before .before .before .before .before .before .before .kind-ok .ensures) ∙ not-false _ (c .before .before .before .before .before .before .if2 .left)) (c .before .before .before .before .before .fields-of .ensures) (fields-placed (c .before .before .before .before .before .before .before .before .before .before .before .before .args .file .now) (c .before .before .before .before .before .before .before .before .before .before .before .before .args .at + 1) (c .before .before .before .before .before .before .before .before .wide .result) (sym (c .before .before .before .before .before .before .before .kind-ok .ensures) ∙ not-false _ (c .before .before .before .before .before .before .if2 .left)) (c .before .before .before .before .before .fields-of .ensures) (omega arith) (sym (c .before .before .before .before .pass-inside .ensures) ∙ c .before .before .after .given .1)) (c .pass-tail .ensures))
+returns-3 c = call-goes mostQuarters (c .before .before .before .before .before .before .before .before .before .before .before .before .args .file .now) (c .before .before .before .before .before .before .before .before .before .before .before .before .args .at) (kind-at (c .before .before .before .before .before .before .before .before .before .before .before .before .args .file .now) (c .before .before .before .before .before .before .before .before .before .before .before .before .args .at) (omega arith) (c .before .before .before .before .before .before .before .before .wide .ensures .0) (sym (c .before .before .before .before .before .before .before .kind-ok .ensures) ∙ not-false _ (c .before .before .before .before .before .before .if2 .left))) (kind-goes mostQuarters (c .before .before .before .before .before .before .before .before .before .before .before .before .args .file .now) (c .before .before .before .before .before .before .before .before .before .before .before .before .args .at + 1) (c .before .before .before .before .before .before .before .before .wide .result) (sym (c .before .before .before .before .before .before .before .kind-ok .ensures) ∙ not-false _ (c .before .before .before .before .before .before .if2 .left)) (c .before .before .before .before .before .fields-of .ensures) (fields-placed (c .before .before .before .before .before .before .before .before .before .before .before .before .args .file .now) (c .before .before .before .before .before .before .before .before .before .before .before .before .args .at + 1) _ (omega arith) (sym (c .before .before .before .before .pass-inside .ensures) ∙ c .before .before .after .given .1)) (c .pass-tail .ensures))
 
 returns-4 : tie.Need-returns-4
-returns-4 c = call-goes (c .before .before .before .before .before .before .before .before .before .before .before .args .file .now) (c .before .before .before .before .before .before .before .before .before .before .before .args .at) (kind-at (c .before .before .before .before .before .before .before .before .before .before .before .args .file .now) (c .before .before .before .before .before .before .before .before .before .before .before .args .at) (omega arith) (c .before .before .before .before .before .before .before .wide .ensures .0) (sym (c .before .before .before .before .before .before .kind-ok .ensures) ∙ not-false _ (c .before .before .before .before .before .if2 .left))) (kind-not (c .before .before .before .before .before .before .before .before .before .before .before .args .file .now) (c .before .before .before .before .before .before .before .before .before .before .before .args .at + 1) (c .before .before .before .before .before .before .before .wide .result) (sym (c .before .before .before .before .before .before .kind-ok .ensures) ∙ not-false _ (c .before .before .before .before .before .if2 .left)) (c .before .before .before .before .fields-of .ensures) (sym (c .before .before .before .pass-inside .ensures) ∙ c .before .cause .given .1))
+returns-4 c = call-goes mostQuarters (c .before .before .before .before .before .before .before .before .before .before .before .args .file .now) (c .before .before .before .before .before .before .before .before .before .before .before .args .at) (kind-at (c .before .before .before .before .before .before .before .before .before .before .before .args .file .now) (c .before .before .before .before .before .before .before .before .before .before .before .args .at) (omega arith) (c .before .before .before .before .before .before .before .wide .ensures .0) (sym (c .before .before .before .before .before .before .kind-ok .ensures) ∙ not-false _ (c .before .before .before .before .before .if2 .left))) (kind-not mostQuarters (c .before .before .before .before .before .before .before .before .before .before .before .args .file .now) (c .before .before .before .before .before .before .before .before .before .before .before .args .at + 1) (c .before .before .before .before .before .before .before .wide .result) (sym (c .before .before .before .before .before .before .kind-ok .ensures) ∙ not-false _ (c .before .before .before .before .before .if2 .left)) (c .before .before .before .before .fields-of .ensures) (sym (c .before .before .before .pass-inside .ensures) ∙ c .before .cause .given .1))
 
 pub pass-call-spec : {M : Type 1} → statement M
 pass-call-spec =

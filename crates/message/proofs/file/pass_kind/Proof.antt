@@ -10,7 +10,7 @@ kind-ok-requires : tie.Need-kind-ok-requires
 kind-ok-requires c κs = search needs
 
 returns : tie.Need-returns
-returns c = kind-bad (c .before .before .before .args .file .now) (c .before .before .before .args .from) (c .before .before .before .args .kind) (sym (c .before .kind-ok .ensures) ∙ not-true _ (c .if1 .taken))
+returns c = kind-bad (c .before .before .before .args .room) (c .before .before .before .args .file .now) (c .before .before .before .args .from) (c .before .before .before .args .kind) (sym (c .before .kind-ok .ensures) ∙ not-true _ (c .if1 .taken))
 
 fields-of-requires : tie.Need-fields-of-requires
 fields-of-requires c κs = search needs
@@ -22,7 +22,7 @@ enum-known-after : tie.Need-enum-known-after
 enum-known-after c = search needs
 
 pass-tail-requires : tie.Need-pass-tail-requires
-pass-tail-requires c κs = fields-placed (c .before .before .before .before .before .before .before .before .args .file .now) (c .before .before .before .before .before .before .before .before .args .from) (c .before .before .before .before .before .before .before .before .args .kind) (sym (c .before .before .before .before .before .before .kind-ok .ensures) ∙ not-false _ (c .before .before .before .before .before .if1 .left)) (c .before .before .before .before .fields-of .ensures) (c .before .before .before .before .before .before .before .before .pre) (sym (c .before .before .before .pass-near .ensures) ∙ c .before .after .given .1) .within
+pass-tail-requires c κs = fields-placed (c .before .before .before .before .before .before .before .before .args .file .now) (c .before .before .before .before .before .before .before .before .args .from) _ (c .before .before .before .before .before .before .before .before .pre) (sym (c .before .before .before .pass-near .ensures) ∙ c .before .after .given .1) .within
 
 enum-known-cause : tie.Need-enum-known-cause
 enum-known-cause c = search needs
@@ -30,10 +30,10 @@ enum-known-cause c = search needs
 returns-2 : tie.Need-returns-2
 returns-2 c =
     let known = sym (c .before .before .before .before .before .before .before .kind-ok .ensures) ∙ not-false _ (c .before .before .before .before .before .before .if1 .left) in
-    kind-goes (c .before .before .before .before .before .before .before .before .before .args .file .now) (c .before .before .before .before .before .before .before .before .before .args .from) (c .before .before .before .before .before .before .before .before .before .args .kind) known (c .before .before .before .before .before .fields-of .ensures) (fields-placed (c .before .before .before .before .before .before .before .before .before .args .file .now) (c .before .before .before .before .before .before .before .before .before .args .from) (c .before .before .before .before .before .before .before .before .before .args .kind) known (c .before .before .before .before .before .fields-of .ensures) (c .before .before .before .before .before .before .before .before .before .pre) (sym (c .before .before .before .before .pass-near .ensures) ∙ c .before .before .after .given .1)) (c .pass-tail .ensures)
+    kind-goes (c .before .before .before .before .before .before .before .before .before .args .room) (c .before .before .before .before .before .before .before .before .before .args .file .now) (c .before .before .before .before .before .before .before .before .before .args .from) (c .before .before .before .before .before .before .before .before .before .args .kind) known (c .before .before .before .before .before .fields-of .ensures) (fields-placed (c .before .before .before .before .before .before .before .before .before .args .file .now) (c .before .before .before .before .before .before .before .before .before .args .from) _ (c .before .before .before .before .before .before .before .before .before .pre) (sym (c .before .before .before .before .pass-near .ensures) ∙ c .before .before .after .given .1)) (c .pass-tail .ensures)
 
 returns-3 : tie.Need-returns-3
-returns-3 c = kind-not (c .before .before .before .before .before .before .before .before .args .file .now) (c .before .before .before .before .before .before .before .before .args .from) (c .before .before .before .before .before .before .before .before .args .kind) (sym (c .before .before .before .before .before .before .kind-ok .ensures) ∙ not-false _ (c .before .before .before .before .before .if1 .left)) (c .before .before .before .before .fields-of .ensures) (sym (c .before .before .before .pass-near .ensures) ∙ c .before .cause .given .1)
+returns-3 c = kind-not (c .before .before .before .before .before .before .before .before .args .room) (c .before .before .before .before .before .before .before .before .args .file .now) (c .before .before .before .before .before .before .before .before .args .from) (c .before .before .before .before .before .before .before .before .args .kind) (sym (c .before .before .before .before .before .before .kind-ok .ensures) ∙ not-false _ (c .before .before .before .before .before .if1 .left)) (c .before .before .before .before .fields-of .ensures) (sym (c .before .before .before .pass-near .ensures) ∙ c .before .cause .given .1)
 
 pub pass-kind-spec : {M : Type 1} → statement M
 pass-kind-spec =
