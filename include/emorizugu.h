@@ -25,7 +25,7 @@ extern "C" {
 #endif
 
 /* The version of these entries. It rises with every change that a host notices; emorizugu_version() is the library's. */
-#define EMORIZUGU_VERSION 8
+#define EMORIZUGU_VERSION 9
 
 /* Answers: accepted, and the causes of a refusal in the order in which they are checked. docs/CAUSES.md has them in words. */
 #define EMORIZUGU_ACCEPTED         0
@@ -193,6 +193,9 @@ enum {
 };
 #define EMORIZUGU_VERSIONS_LENGTH (EMORIZUGU_HELD_VERSION * EMORIZUGU_VERSIONS)
 
+/* The answer of emorizugu_read where no call follows: the file ends there. */
+#define EMORIZUGU_NO_CALL 1
+
 /* The places of a call that was read: the next offset, the kind, its fields in the file's order, the energies' count. */
 enum { EMORIZUGU_NEXT, EMORIZUGU_CALL_KIND, EMORIZUGU_FIELDS, EMORIZUGU_COUNT = EMORIZUGU_FIELDS + 21, EMORIZUGU_CALL };
 
@@ -282,8 +285,9 @@ uint64_t emorizugu_shortfall(const uint8_t *book, size_t length, const uint8_t *
  *
  * 0 where the whole file was run, else the number of the reader's refusal, 31 to 35, or 35 where the answers are full
  * and bytes are left (the summary then has as many calls answered as there are answers). 2 where summary (46), points
- * (2,304) or versions (2,048) have fewer places; nothing is done then. A file that was run may have calls that were
- * refused: the summary says how many, and which was the first.
+ * (2,304) or versions (2,048) have fewer places; nothing is done then, and everything lent is as it was. 31 to 35 speak of
+ * the file: stores, answers, summary, points and versions tell what was run up to there. A file that was run may have calls
+ * that were refused: the summary says how many, and which was the first.
  */
 uint64_t emorizugu_replay(const uint8_t *file, size_t length, uint64_t *values, size_t values_length, uint64_t *book,
                           size_t book_length, uint64_t *log, size_t log_length, uint64_t *schedules,
@@ -332,18 +336,24 @@ uint64_t emorizugu_sum(const uint64_t *book, size_t length, uint64_t quarters, u
 uint64_t emorizugu_difference(const uint64_t *book, size_t length, uint64_t quarters, uint64_t row);
 
 /*
- * The call of a message file at an offset, as numbers: call has EMORIZUGU_CALL places, of which a kind's fields are
- * filled; a submission's energies, each a 64-bit word in two's complement, go to series. 0 for a call; 1 where the file
- * ends there; 31 to 35 for a refusal, with its offset in the first place; 2 where call has fewer places, and nothing
- * is done.
+ * The call of a message file at an offset, as numbers: call has EMORIZUGU_CALL places, which are all written, those behind
+ * a kind's fields with 0; a submission's energies, each a 64-bit word in two's complement, go to series. 0 for a call; with
+ * every other answer call and series are as they were: EMORIZUGU_NO_CALL where the file ends there, 31 to 35 for a refusal,
+ * 2 where call has fewer places.
  */
 uint64_t emorizugu_read(const uint8_t *file, size_t length, uint64_t start, uint64_t *series, size_t series_length,
                         uint64_t *call, size_t call_length);
 
 /*
+ * Where emorizugu_read stands over the same input, with the length of series as room: the offset of the refused call, which
+ * is start, or that behind a call that is read; at the file's end that end.
+ */
+uint64_t emorizugu_read_offset(const uint8_t *file, size_t length, uint64_t start, uint64_t room);
+
+/*
  * A call's bytes to the start of an output, and how many they are to size[0]. Fields that are missing count as 0; only a
- * submission (kind 4) has a series. 0; 33 to 35 for a refusal, with size[0] 0 and the output as it was; 2 where size has
- * no place, and nothing is done. Nine bytes a number are always enough.
+ * submission (kind 4) has a series. 0; with every other answer output and size are as they were: 33 to 35 for a refusal,
+ * 2 where size has no place. Nine bytes a number are always enough.
  */
 uint64_t emorizugu_write(uint64_t kind, const uint64_t *fields, size_t fields_length, const uint64_t *series,
                          size_t series_length, uint8_t *output, size_t output_length, uint64_t *size,

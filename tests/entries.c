@@ -43,7 +43,8 @@ static void *run(void *refusal) {
 
 static int nothing(void) {
     static struct emorizugu_lent none;
-    uint64_t size = 7;
+    uint64_t size = 7, call[EMORIZUGU_CALL] = {[EMORIZUGU_NEXT] = 9, [EMORIZUGU_COUNT] = 9};
+    const uint8_t no_kind = 9;
     if (emorizugu_run(&none) != 0 || none.summary[EMORIZUGU_ANSWERED] != 0)
         return wrong("a replay of nothing");
     if (emorizugu_replay(NULL, 0, NULL, 0, NULL, 0, NULL, 0, NULL, 0, NULL, 0, NULL, 0, NULL, 0, NULL, 0, NULL, 0) != 2)
@@ -59,7 +60,14 @@ static int nothing(void) {
         return wrong("a sum of no book");
     if (emorizugu_read(NULL, 0, 0, NULL, 0, NULL, 0) != 2)
         return wrong("a call read to nowhere");
-    if (emorizugu_write(8, NULL, 0, NULL, 0, NULL, 0, &size, 1) != 35 || size != 0)
+    if (emorizugu_read_offset(NULL, 0, 0, 0) != 0 || emorizugu_read_offset(NULL, 0, 1, 0) != 1)
+        return wrong("the offset in an empty file");
+    if (emorizugu_read(&no_kind, 1, 0, &size, 1, call, EMORIZUGU_CALL) != EMORIZUGU_BAD_KIND || size != 7
+        || call[EMORIZUGU_NEXT] != 9 || call[EMORIZUGU_COUNT] != 9 || emorizugu_read_offset(&no_kind, 1, 0, 1) != 0)
+        return wrong("a call of no kind read");
+    if (emorizugu_read(&no_kind, 1, 1, &size, 1, call, EMORIZUGU_CALL) != EMORIZUGU_NO_CALL || call[EMORIZUGU_NEXT] != 9)
+        return wrong("the end of a file read");
+    if (emorizugu_write(8, NULL, 0, NULL, 0, NULL, 0, &size, 1) != 35 || size != 7)
         return wrong("a call written to nowhere");
     if (emorizugu_write(0, NULL, 0, NULL, 0, NULL, 0, &size, 1) != 33
         || emorizugu_write(9, NULL, 0, NULL, 0, NULL, 0, &size, 1) != 33

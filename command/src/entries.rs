@@ -100,6 +100,7 @@ extern "C" {
         call: *mut u64,
         call_length: usize,
     ) -> u64;
+    pub fn emorizugu_read_offset(file: *const u8, length: usize, start: u64, room: u64) -> u64;
     pub fn emorizugu_write(
         kind: u64,
         fields: *const u64,

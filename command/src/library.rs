@@ -5,9 +5,9 @@ use std::collections::HashMap;
 use crate::calls::{self, MOST_FIELDS, MOST_QUARTERS};
 use crate::entries::{
     emorizugu_date, emorizugu_date_refusal, emorizugu_day, emorizugu_day_refusal,
-    emorizugu_difference, emorizugu_figure, emorizugu_read, emorizugu_replay,
-    emorizugu_report_refusal, emorizugu_shortfall, emorizugu_sum, emorizugu_surplus,
-    emorizugu_version, emorizugu_weekday, emorizugu_write,
+    emorizugu_difference, emorizugu_figure, emorizugu_read, emorizugu_read_offset,
+    emorizugu_replay, emorizugu_report_refusal, emorizugu_shortfall, emorizugu_sum,
+    emorizugu_surplus, emorizugu_version, emorizugu_weekday, emorizugu_write,
 };
 
 /// The most versions that a desk holds, and its points.
@@ -103,8 +103,16 @@ impl<'a> Reader<'a> {
                 })
             }
             1 => Read::End,
-            number => Read::Refused(number, call[0] as usize),
+            number => Read::Refused(number, self.offset()),
         }
+    }
+
+    /// Where the reader stands: the offset of a refused call, or that behind a call that is read.
+    fn offset(&self) -> usize {
+        let room = self.series.len() as u64;
+        let offset =
+            unsafe { emorizugu_read_offset(self.file.as_ptr(), self.file.len(), self.at, room) };
+        offset as usize
     }
 
     /// The first energies of the submission read last.

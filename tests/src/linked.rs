@@ -8,8 +8,8 @@ use crate::calendar::{Date, Month};
 use entries::{
     emorizugu_date, emorizugu_date_refusal, emorizugu_day, emorizugu_day_refusal, emorizugu_figure,
     emorizugu_figure_refusal, emorizugu_file_offset, emorizugu_file_refusal, emorizugu_read,
-    emorizugu_replay, emorizugu_report_refusal, emorizugu_shortfall, emorizugu_surplus,
-    emorizugu_weekday, emorizugu_write,
+    emorizugu_read_offset, emorizugu_replay, emorizugu_report_refusal, emorizugu_shortfall,
+    emorizugu_surplus, emorizugu_weekday, emorizugu_write,
 };
 
 extern "C" {
@@ -124,6 +124,11 @@ pub fn read(file: &[u8], start: u64, series: &mut [u64], out: &mut [u64]) -> u64
             out.len(),
         )
     }
+}
+
+/// `emorizugu_read_offset`.
+pub fn read_offset(file: &[u8], start: u64, room: u64) -> u64 {
+    unsafe { emorizugu_read_offset(file.as_ptr(), file.len(), start, room) }
 }
 
 /// `emorizugu_write`.

@@ -466,9 +466,12 @@ fn byte_8_is_a_call_and_0_9_and_10_are_33() {
         for read in [numbers::read, linked::read] {
             let (mut series, mut answer) = ([9; 1], [9; numbers::ANSWER]);
             let given = read(file, 0, &mut series, &mut answer);
-            let kind_read = if is_call { kind } else { 0 };
-            let wanted = (number, offset, kind_read);
+            let (next, kind_read) = if is_call { (offset, kind) } else { (9, 9) };
+            let wanted = (number, next, kind_read);
             assert_eq!((given, answer[0], answer[1]), wanted, "kind {kind}");
+        }
+        for read_offset in [numbers::read_offset, linked::read_offset] {
+            assert_eq!(read_offset(file, 0, 1), offset, "kind {kind}");
         }
     }
 }
@@ -482,7 +485,7 @@ fn the_writer_takes_kinds_1_to_8() {
             let number = write(kind, &[], &[], &mut output, &mut length);
             let is_call = (1..=8).contains(&kind);
             assert_eq!(number, if is_call { 0 } else { 33 }, "kind {kind}");
-            assert_eq!(length[0] > 0, is_call, "kind {kind}");
+            assert_eq!(length != [9], is_call, "kind {kind}");
             assert_eq!(output != [0xee; 40], is_call, "kind {kind}");
         }
         let (mut output, mut length) = ([0xee; 6], [9]);

@@ -61,7 +61,7 @@ impl Run {
     }
 
     /// Reads one call with both, a series buffer of `room` places and mostly a right answer slice, and compares the
-    /// numbers and both slices whole.
+    /// numbers, the offsets and both slices whole; an answer other than 0 leaves both slices.
     fn read(&mut self, file: &[u8], start: u64, room: usize) -> Answer {
         let places = match self.random.below(64) {
             0 => self.random.below(ANSWER),
@@ -77,10 +77,16 @@ impl Run {
         assert_eq!(number, linked, "{}", place());
         assert_eq!(out, linked_out, "answer slice {}", place());
         assert_eq!(series, linked_series, "series buffer {}", place());
-        if number != 0 {
-            assert_eq!(series, buffer, "buffer after {number} {}", place());
+        for room in [room as u64, u64::MAX] {
+            let offset = numbers::read_offset(file, start, room);
+            let linked_offset = linked::read_offset(file, start, room);
+            assert_eq!(offset, linked_offset, "offset, room {room} {}", place());
         }
-        if number == SHORT {
+        if number == 0 {
+            let offset = numbers::read_offset(file, start, room as u64);
+            assert_eq!(offset, out[0], "offset behind the call {}", place());
+        } else {
+            assert_eq!(series, buffer, "buffer after {number} {}", place());
             assert_eq!(out, before, "answer slice after {number} {}", place());
         }
         self.tally.add("read", number);
@@ -101,6 +107,7 @@ impl Run {
         };
         let byte = self.random.word() as u8;
         let (before, mut out) = (vec![byte; room], self.filled(places));
+        let kept = out.clone();
         let (mut linked_output, mut linked_out) = (before.clone(), out.clone());
         let linked = linked::write(kind, fields, series, &mut linked_output, &mut linked_out);
         let mut output = before.clone();
@@ -109,6 +116,9 @@ impl Run {
         assert_eq!(number, linked, "{}", call());
         assert_eq!(out, linked_out, "answer slice, {}", call());
         assert_eq!(output, linked_output, "output, {}", call());
+        if number != 0 {
+            assert_eq!(out, kept, "answer slice after {number}, {}", call());
+        }
         self.tally.add("write", number);
         let bytes = if number == 0 { out[0] as usize } else { 0 };
         assert_eq!(

@@ -58,7 +58,7 @@ fn the_example_is_read_as_its_calls() {
         }
         let (mut series, mut answer) = ([9; 2], [9; ANSWER]);
         assert_eq!(read(&file, start, &mut series, &mut answer), NO_CALL);
-        assert_eq!(answer[..], call(43, 0, &[], 0));
+        assert_eq!((start, answer), (43, [9; ANSWER]));
         assert_eq!(series, [9, 9]);
     }
 }
@@ -208,7 +208,7 @@ fn buffers_and_starts_written_out() {
         ),
         ("07 01 1F", 2, 0, 33, 2, "a start inside a call: kind 31"),
     ];
-    for (line, start, room, number, first, why) in cases {
+    for (line, start, room, number, offset, why) in cases {
         let file = bytes(line);
         for read in [numbers::read, linked::read] {
             let (mut series, mut answer) = (vec![9; room], [9; ANSWER]);
@@ -217,13 +217,16 @@ fn buffers_and_starts_written_out() {
                 number,
                 "{why}"
             );
-            assert_eq!(answer[0], first, "{why}");
             if number == 0 {
+                assert_eq!(answer[0], offset, "{why}");
                 assert_eq!(series, [u64::MAX, 1], "energies -1 and 1");
             } else {
                 assert_eq!(series, vec![9; room], "{why}");
-                assert_eq!(answer[1..], [0; ANSWER - 1], "{why}");
+                assert_eq!(answer, [9; ANSWER], "{why}");
             }
+        }
+        for read_offset in [numbers::read_offset, linked::read_offset] {
+            assert_eq!(read_offset(&file, start, room as u64), offset, "{why}");
         }
     }
 }
@@ -255,7 +258,7 @@ fn energies_at_the_ends_written_out() {
         for write in [numbers::write, linked::write] {
             let (mut output, mut length) = ([0xee; 20], [9]);
             let number = write(4, &[1, 7, 2], &[energy as u64], &mut output, &mut length);
-            assert_eq!((number, length, output), (34, [0], [0xee; 20]), "{energy}");
+            assert_eq!((number, length, output), (34, [9], [0xee; 20]), "{energy}");
         }
     }
 }

@@ -64,7 +64,7 @@ same-places m out a b c = rw (a, b, c)
 
 -- so the places of a call that was read hold the kind, the fields and the count that stand in the file, and the offset behind them
 pub places-read : (s : List ℕ) (at room : ℕ) (out : List ℕ) {d : DeskCall} {n m : ℕ} → readAt s at room .step ≡ Call d n m →
-    (c : Sent) × (parse room (drop at s) ≡ got c (drop m s)) × (readOut at (readAt s at room) out ≡ written m (c .kind) (padded (c .fields)) (length (c .energies)) out)
+    (c : Sent) × (parse room (drop at s) ≡ got c (drop m s)) × (readOut (readAt s at room) out ≡ written m (c .kind) (padded (c .fields)) (length (c .energies)) out)
 places-read s at room out {d} {n} {m} e =
     let w = reader-call s at room e in
     let b = given-back (parse-read room (drop at s) (w .parsed) .carried) (w .named) in

@@ -1,9 +1,7 @@
 -- The places of what was read, and a field or 0 where there is none. Assumes nothing.
 use Prim.Native.Nat.{ℕ, suc, _+_, _-_, _<_, _≤_}
 use mathlib.Core.Path.{_≡_, refl, sym, ap, subst, _∙_}
-use mathlib.Core.Bool.{cond}
 use borrow.Author.Tests.{lt-ltb, le-ltb, eq-eqb, ne-eqb}
-use lib.Dec.{ltb, eqb}
 use mathlib.Core.List.{List, [], _∷_, _++_}
 use native.Mathlib.Omega.{arith}
 use native.Mathlib.Numerals.{add-one}
@@ -11,7 +9,7 @@ use lib.ListN.{length, take, drop, set, getD, length-set, List·getD-append}
 use lib.Seq.{take-suc, take-suc-set, take-all, drop-set-lt, set-split, getD-append-add}
 use Rattle.message.specs.Call.{beforeGroups, mostFields}
 use Rattle.reader.specs.Reader.{readAt, seriesAfter}
-use Rattle.host.specs.Call.{places, written, sentAs, readAnswer, stepOut, readOut, writeAnswer, writeLength, writeOut}
+use Rattle.host.specs.Call.{places, written, sentAs, readAnswer, stepOut, readOut, ReadCall, writeAnswer, writeOut, WriteCall}
 use Rattle.message.specs.Call.{Sent}
 use Rattle.reader.specs.declared.Reading.{Reading}
 use Rattle.reader.specs.declared.Step.{Step}
@@ -81,47 +79,30 @@ module _ (head groups : List ℕ) (i : ℕ) (size : length head ≡ beforeGroups
       let place : length head + (i - beforeGroups) ≡ i = omega arith in
       sym (getD-append-add head groups (i - beforeGroups) 0) ∙ rw place
 
--- what is answered of a reading: the number, the series buffer, the places
-abbrev pub ReadPost : List ℕ → ℕ → List ℕ → List ℕ → ℕ → List ℕ → List ℕ → Type 0
-ReadPost s start series₀ out₀ r series out =
-    (r ≡ cond (ltb (length out₀) places) 2 (readAnswer (readAt s start (length series₀) .step)))
-    × (series ≡ cond (ltb (length out₀) places) series₀ (seriesAfter s start series₀))
-    × (out ≡ cond (ltb (length out₀) places) out₀ (readOut start (readAt s start (length series₀)) out₀))
-
 module _ (s : List ℕ) (start : ℕ) (series₀ out₀ : List ℕ) where
-  pub read-short : length out₀ < places → ReadPost s start series₀ out₀ 2 series₀ out₀
+  pub read-short : length out₀ < places → ReadCall s start series₀ out₀ 2 series₀ out₀
   read-short h = rw (lt-ltb (length out₀) places h) (refl, refl, refl)
 
   pub read-step : {reading : Reading} {t : Step} {r : ℕ} {series out : List ℕ} → places ≤ length out₀ → (reading ≡ readAt s start (length series₀)) × (series ≡ seriesAfter s start series₀) → reading .step ≡ t →
-      r ≡ readAnswer t → out ≡ stepOut start t (reading .groups) out₀ → ReadPost s start series₀ out₀ r series out
+      r ≡ readAnswer t → out ≡ stepOut t (reading .groups) out₀ → ReadCall s start series₀ out₀ r series out
   read-step {reading} {t} h p e a o =
       rw (le-ltb (length out₀) places h)
-      (a ∙ ap readAnswer (sym e ∙ ap (λ (x : Reading). x .step) (p .0)), p .1, o ∙ ap (λ (x : Step). stepOut start x (reading .groups) out₀) (sym e) ∙ ap (λ (x : Reading). readOut start x out₀) (p .0))
+      (a ∙ ap readAnswer (sym e ∙ ap (λ (x : Reading). x .step) (p .0)), p .1, o ∙ ap (λ (x : Step). stepOut x (reading .groups) out₀) (sym e) ∙ ap (λ (x : Reading). readOut x out₀) (p .0))
 
--- what is answered of a writing: the number, the output, the length
-abbrev pub WritePost : Sent → List ℕ → List ℕ → ℕ → List ℕ → List ℕ → Type 0
-WritePost c output₀ out₀ r output out =
-    (r ≡ cond (eqb (length out₀) 0) 2 (writeAnswer (writtenIn (length output₀) c)))
-    × (output ≡ cond (eqb (length out₀) 0) output₀ (outputAfter (writtenIn (length output₀) c) c output₀))
-    × (out ≡ cond (eqb (length out₀) 0) out₀ (writeOut (writtenIn (length output₀) c) out₀))
+pub first-place : (out : List ℕ) (n : ℕ) → (length out ≡ 0 → ⊥) → set out 0 n ≡ n ∷ drop 1 out
+first-place [] n h = absurd (h refl)
+first-place (x ∷ l) n h = refl
 
 module _ (c : Sent) (output₀ out₀ : List ℕ) where
-  pub write-short : length out₀ ≡ 0 → WritePost c output₀ out₀ 2 output₀ out₀
+  pub write-short : length out₀ ≡ 0 → WriteCall c output₀ out₀ 2 output₀ out₀
   write-short h = rw (eq-eqb (length out₀) 0 h) (refl, refl, refl)
 
-  first-place : (n : ℕ) → (length out₀ ≡ 0 → ⊥) → set out₀ 0 n ≡ n ∷ drop 1 out₀
-  first-place n h = go out₀ h
-    where
-      go : (l : List ℕ) → (length l ≡ 0 → ⊥) → set l 0 n ≡ n ∷ drop 1 l
-      go [] h = absurd (h refl)
-      go (x ∷ l) h = refl
-
-  pub write-step : {w t : Written} {r : ℕ} {output : List ℕ} → (length out₀ ≡ 0 → ⊥) → (w ≡ writtenIn (length output₀) c) × (output ≡ outputAfter w c output₀) → w ≡ t → r ≡ writeAnswer t →
-      WritePost c output₀ out₀ r output (set out₀ 0 (writeLength t))
-  write-step {w} {t} h p e a =
+  pub write-step : {w t : Written} {r : ℕ} {output out : List ℕ} → (length out₀ ≡ 0 → ⊥) → (w ≡ writtenIn (length output₀) c) × (output ≡ outputAfter w c output₀) → w ≡ t → r ≡ writeAnswer t →
+      out ≡ writeOut t out₀ → WriteCall c output₀ out₀ r output out
+  write-step {w} {t} h p e a o =
       let same : t ≡ writtenIn (length output₀) c = sym e ∙ p .0 in
       rw (ne-eqb (length out₀) 0 h)
-      (a ∙ ap writeAnswer same, p .1 ∙ ap (λ (x : Written). outputAfter x c output₀) (p .0), first-place (writeLength t) h ∙ ap (λ (x : Written). writeOut x out₀) same)
+      (a ∙ ap writeAnswer same, p .1 ∙ ap (λ (x : Written). outputAfter x c output₀) (p .0), o ∙ ap (λ (x : Written). writeOut x out₀) same)
 
 -- the fields as they were padded
 pub write-padded : (k : ℕ) {f : List ℕ} (fields ws output₀ : List ℕ) {w : Written} {output : List ℕ} → f ≡ fields21 fields →

@@ -1,16 +1,20 @@
 -- One call read and one call written, as numbers in slices.
 use Prim.Native.Nat.{ℕ, _+_}
+use mathlib.Core.Path.{_≡_}
+use mathlib.Core.Bool.{cond}
 use mathlib.Core.List.{List, [], _∷_, _++_}
-use lib.ListN.{drop, replicate}
+use lib.Dec.{ltb, eqb}
+use lib.ListN.{length, drop}
 use Rattle.message.specs.Cause.{causeNumber}
 use Rattle.message.specs.Call.{Sent, opening, activation, deactivation, submission, noticing, assignment, closing, issuing, mostFields}
 use Rattle.message.specs.declared.DeskCall.{DeskCall}
 use Rattle.message.specs.declared.DeskCall.the-variants.{Open, Activate, Deactivate, Submit, Notice, Assign, Close, Issue}
+use Rattle.reader.specs.Reader.{readAt, seriesAfter}
 use Rattle.reader.specs.declared.Reading.{Reading}
 use Rattle.reader.specs.declared.Step.{Step}
 use Rattle.reader.specs.declared.Step.the-variants.{Call, End, Refused}
 use Rattle.writer.specs.Fields.{fields21}
-use Rattle.writer.specs.Writer.{handed}
+use Rattle.writer.specs.Writer.{handed, writtenIn, outputAfter}
 use Rattle.writer.specs.declared.Written.{Written}
 use Rattle.writer.specs.declared.Written.the-variants.{Length, Refused as NotWritten}
 
@@ -50,21 +54,30 @@ readAnswer (Refused x at) = causeNumber x
 abbrev pub written : (first kind : ℕ) (fields : List ℕ) (count : ℕ) (out : List ℕ) → List ℕ
 written first kind fields count out = first ∷ kind ∷ (fields ++ (count ∷ drop places out))
 
--- what stands there without a call: an offset, and 0 in the other places
-abbrev pub noCall : (first : ℕ) (out : List ℕ) → List ℕ
-noCall first out = written first 0 (replicate mostFields 0) 0 out
-
--- what stands there after a step
-abbrev pub stepOut : (start : ℕ) → Step → (groups out : List ℕ) → List ℕ
-stepOut start (Call d n m) groups out = written m (kindOf d) (headOf d ++ groups) n out
-stepOut start End groups out = noCall start out
-stepOut start (Refused x at) groups out = noCall at out
+-- what stands there after a step: only a call that is read writes its places. "A refusal returns its number and changes nothing in .. the output."
+abbrev pub stepOut : Step → (groups out : List ℕ) → List ℕ
+stepOut (Call d n m) groups out = written m (kindOf d) (headOf d ++ groups) n out
+stepOut End groups out = out
+stepOut (Refused x at) groups out = out
 
 -- what stands there after a reading
-abbrev pub readOut : (start : ℕ) → Reading → (out : List ℕ) → List ℕ
-readOut start r out = stepOut start (r .step) (r .groups) out
+abbrev pub readOut : Reading → (out : List ℕ) → List ℕ
+readOut r out = stepOut (r .step) (r .groups) out
 
--- the call that is sentAs into the writer
+-- "31 to 35 come with an offset, that of the refused call"; without a refusal the offset behind the call, at the file's end that end
+abbrev pub stepOffset : (start : ℕ) → Step → ℕ
+stepOffset start (Call d n m) = m
+stepOffset start End = start
+stepOffset start (Refused x at) = at
+
+-- what a read answers, and how it leaves the series buffer and the places: 2, and nothing is done, where the places are fewer than 24
+abbrev pub ReadCall : (file : List ℕ) (start : ℕ) (series out : List ℕ) (answer : ℕ) (series′ out′ : List ℕ) → Type 0
+ReadCall file start series out answer series′ out′ =
+    (answer ≡ cond (ltb (length out) places) 2 (readAnswer (readAt file start (length series) .step)))
+    × (series′ ≡ cond (ltb (length out) places) series (seriesAfter file start series))
+    × (out′ ≡ cond (ltb (length out) places) out (readOut (readAt file start (length series)) out))
+
+-- the call that is sent into the writer
 abbrev pub sentAs : (kind : ℕ) (fields series : List ℕ) → Sent
 sentAs kind fields series = handed kind (fields21 fields) series
 
@@ -73,11 +86,14 @@ abbrev pub writeAnswer : Written → ℕ
 writeAnswer (Length n) = 0
 writeAnswer (NotWritten x at) = causeNumber x
 
--- the length written, or 0
-abbrev pub writeLength : Written → ℕ
-writeLength (Length n) = n
-writeLength (NotWritten x at) = 0
-
--- the length stands in the first place, the others as they were
+-- the length written stands in the first place, the others as they were; a refusal leaves all
 abbrev pub writeOut : Written → (out : List ℕ) → List ℕ
-writeOut w out = writeLength w ∷ drop 1 out
+writeOut (Length n) out = n ∷ drop 1 out
+writeOut (NotWritten x at) out = out
+
+-- what a write answers, and how it leaves the output and the place of its length: 2, and nothing is done, where that place is missing
+abbrev pub WriteCall : Sent → (output out : List ℕ) (answer : ℕ) (output′ out′ : List ℕ) → Type 0
+WriteCall c output out answer output′ out′ =
+    (answer ≡ cond (eqb (length out) 0) 2 (writeAnswer (writtenIn (length output) c)))
+    × (output′ ≡ cond (eqb (length out) 0) output (outputAfter (writtenIn (length output) c) c output))
+    × (out′ ≡ cond (eqb (length out) 0) out (writeOut (writtenIn (length output) c) out))

@@ -1,19 +1,18 @@
 // One call of a message file read, and one call written, as numbers in slices.
 use crate::TOO_SHORT;
 use crate::numbers;
+use message::Passed;
 use message::call::MOST_FIELDS;
 use message::cause;
+use message::file::pass_any;
 use reader::Step;
 use writer::Written;
 use writer::fields::pad_fields;
 ghost use mathlib.Core.Path.{_≡_};
-ghost use mathlib.Core.Bool.{cond};
 ghost use Prim.Native.Nat.{_≤_};
-ghost use lib.Dec.{ltb, eqb};
 ghost use lib.ListN.{length};
-ghost use Rattle.reader.specs.Reader.{readAt, seriesAfter};
-ghost use Rattle.host.specs.Call.{places, readAnswer, readOut, written, sentAs, writeAnswer, writeOut};
-ghost use Rattle.writer.specs.Writer.{writtenIn, outputAfter};
+ghost use Rattle.reader.specs.Reader.{readAt};
+ghost use Rattle.host.specs.Call.{places, written, stepOffset, ReadCall, sentAs, WriteCall};
 
 // The places of what was read: the offset behind it, its kind, 21 fields, a count.
 const FIELDS_AT: usize = 2;
@@ -25,7 +24,7 @@ const PLACES: usize = COUNT_AT + 1;
 // No call follows.
 const NO_CALL: u64 = 1;
 
-// What was read, into its places.
+// A call that was read, into its places.
 fn fill_out(out: &mut [u64], first: u64, kind: u64, fields: [u64; MOST_FIELDS], count: u64)
     requires { ⌜ places ≤ length (now out) ⌝ }
     ensures { λ _. ⌜ now (out .exit) ≡ written first kind fields count (now (out .entry)) ⌝ }
@@ -47,9 +46,7 @@ pub extern "C" fn emorizugu_read(
     series: &mut [u64],
     out: &mut [u64],
 ) -> u64
-    ensures { λ r. ⌜ (r ≡ cond (ltb (length (now (out .entry))) places) 2 (readAnswer (readAt (now (file .entry)) start (length (now (series .entry))) .step)))
-        × (now (series .exit) ≡ cond (ltb (length (now (out .entry))) places) (now (series .entry)) (seriesAfter (now (file .entry)) start (now (series .entry))))
-        × (now (out .exit) ≡ cond (ltb (length (now (out .entry))) places) (now (out .entry)) (readOut start (readAt (now (file .entry)) start (length (now (series .entry)))) (now (out .entry)))) ⌝ }
+    ensures { λ r. ⌜ ReadCall (now (file .entry)) start (now (series .entry)) (now (out .entry)) r (now (series .exit)) (now (out .exit)) ⌝ }
 {
     if out.len() < PLACES {
         return TOO_SHORT;
@@ -64,14 +61,24 @@ pub extern "C" fn emorizugu_read(
             fill_out(out, next as u64, kind, fields, count as u64);
             0
         }
-        Step::End => {
-            fill_out(out, start, 0, [0u64; MOST_FIELDS], 0);
-            NO_CALL
-        }
-        Step::Refused { cause, offset } => {
-            fill_out(out, offset as u64, 0, [0u64; MOST_FIELDS], 0);
-            cause::number_of(cause)
-        }
+        Step::End => NO_CALL,
+        Step::Refused { cause, offset: _ } => cause::number_of(cause),
+    }
+}
+
+// Over the same input, with room for as many energies as the series buffer: the offset of the refused call, or that behind a call that is read; at
+// the file's end that end.
+#[no_mangle]
+pub extern "C" fn emorizugu_read_offset(file: &[u8], start: u64, room: u64) -> u64
+    ensures { λ r. ⌜ r ≡ stepOffset start (readAt (now (file .entry)) start room .step) ⌝ }
+{
+    let at = start as usize;
+    if at == file.len() {
+        return start;
+    }
+    match pass_any(file, at, room as usize) {
+        Passed::To(next) => next as u64,
+        Passed::Refused(_) => start,
     }
 }
 
@@ -83,9 +90,7 @@ pub extern "C" fn emorizugu_write(
     output: &mut [u8],
     out: &mut [u64],
 ) -> u64
-    ensures { λ r. ⌜ (r ≡ cond (eqb (length (now (out .entry))) 0) 2 (writeAnswer (writtenIn (length (now (output .entry))) (sentAs kind (now (fields .entry)) (now (series .entry))))))
-        × (now (output .exit) ≡ cond (eqb (length (now (out .entry))) 0) (now (output .entry)) (outputAfter (writtenIn (length (now (output .entry))) (sentAs kind (now (fields .entry)) (now (series .entry)))) (sentAs kind (now (fields .entry)) (now (series .entry))) (now (output .entry))))
-        × (now (out .exit) ≡ cond (eqb (length (now (out .entry))) 0) (now (out .entry)) (writeOut (writtenIn (length (now (output .entry))) (sentAs kind (now (fields .entry)) (now (series .entry)))) (now (out .entry)))) ⌝ }
+    ensures { λ r. ⌜ WriteCall (sentAs kind (now (fields .entry)) (now (series .entry))) (now (output .entry)) (now (out .entry)) r (now (output .exit)) (now (out .exit)) ⌝ }
 {
     if out.len() == 0 {
         return TOO_SHORT;
@@ -95,9 +100,6 @@ pub extern "C" fn emorizugu_write(
             out[0] = n as u64;
             0
         }
-        Written::Refused { cause, offset: _ } => {
-            out[0] = 0;
-            cause::number_of(cause)
-        }
+        Written::Refused { cause, offset: _ } => cause::number_of(cause),
     }
 }

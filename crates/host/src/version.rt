@@ -3,7 +3,7 @@ ghost use mathlib.Core.Path.{_≡_};
 
 #[no_mangle]
 pub extern "C" fn emorizugu_version() -> u64
-    ensures { λ r. ⌜ r ≡ 8 ⌝ }
+    ensures { λ r. ⌜ r ≡ 9 ⌝ }
 {
-    8
+    9
 }

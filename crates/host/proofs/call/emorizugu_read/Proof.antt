@@ -26,14 +26,8 @@ fill-out-requires c κs = search needs
 enum-told : tie.Need-enum-told
 enum-told c = search needs
 
-fill-out-requires-2 : tie.Need-fill-out-requires-2
-fill-out-requires-2 c κs = search needs
-
 enum-known-step-2 : tie.Need-enum-known-step-2
 enum-known-step-2 c = search needs
-
-fill-out-requires-3 : tie.Need-fill-out-requires-3
-fill-out-requires-3 c κs = search needs
 
 number-of-requires : tie.Need-number-of-requires
 number-of-requires c κs = search needs
@@ -52,24 +46,16 @@ returns-2 c =
 same-length-3 : tie.Need-same-length-3
 same-length-3 c = search needs
 
+returns-3 : tie.Need-returns-3
+returns-3 c =
+    read-step (c .before .before .before .before .before .before .before .before .before .before .before .args .file .now) (c .before .before .before .before .before .before .before .before .before .before .before .args .start) (c .before .before .before .before .before .before .before .before .before .before .before .args .series .now) (c .before .before .before .before .before .before .before .before .before .before .before .args .out .now) (c .before .before .before .before .before .before .before .if1 .left) (c .before .before .before .before .before .read-call .ensures) (c .enum-told .given .1) refl refl
+
 same-length-4 : tie.Need-same-length-4
 same-length-4 c = search needs
 
-returns-3 : tie.Need-returns-3
-returns-3 c =
-    read-step (c .before .before .before .before .before .before .before .before .before .before .before .before .before .before .before .args .file .now) (c .before .before .before .before .before .before .before .before .before .before .before .before .before .before .before .args .start) (c .before .before .before .before .before .before .before .before .before .before .before .before .before .before .before .args .series .now) (c .before .before .before .before .before .before .before .before .before .before .before .before .before .before .before .args .out .now) (c .before .before .before .before .before .before .before .before .before .before .before .if1 .left) (c .before .before .before .before .before .before .before .before .before .read-call .ensures) (c .before .before .before .before .enum-told .given .1)
-    refl (c .before .before .fill-out2 .ensures)
-
-same-length-5 : tie.Need-same-length-5
-same-length-5 c = search needs
-
-same-length-6 : tie.Need-same-length-6
-same-length-6 c = search needs
-
 returns-4 : tie.Need-returns-4
 returns-4 c =
-    read-step (c .before .before .before .before .before .before .before .before .before .before .before .before .before .before .before .before .before .args .file .now) (c .before .before .before .before .before .before .before .before .before .before .before .before .before .before .before .before .before .args .start) (c .before .before .before .before .before .before .before .before .before .before .before .before .before .before .before .before .before .args .series .now) (c .before .before .before .before .before .before .before .before .before .before .before .before .before .before .before .before .before .args .out .now) (c .before .before .before .before .before .before .before .before .before .before .before .before .before .if1 .left) (c .before .before .before .before .before .before .before .before .before .before .before .read-call .ensures) (c .before .before .before .before .before .before .step2 .given .1)
-    (c .number-of .ensures) (c .before .before .before .fill-out3 .ensures)
+    read-step (c .before .before .before .before .before .before .before .before .before .before .before .before .before .args .file .now) (c .before .before .before .before .before .before .before .before .before .before .before .before .before .args .start) (c .before .before .before .before .before .before .before .before .before .before .before .before .before .args .series .now) (c .before .before .before .before .before .before .before .before .before .before .before .before .before .args .out .now) (c .before .before .before .before .before .before .before .before .before .if1 .left) (c .before .before .before .before .before .before .before .read-call .ensures) (c .before .before .step2 .given .1) (c .number-of .ensures) refl
 
 pub emorizugu-read-spec : {M : Type 1} → statement M
 emorizugu-read-spec =
@@ -82,16 +68,12 @@ emorizugu-read-spec =
     numbers-of-requires
     fill-out-requires
     enum-told
-    fill-out-requires-2
     enum-known-step-2
-    fill-out-requires-3
     number-of-requires
     same-length
     same-length-2
     returns-2
     same-length-3
-    same-length-4
     returns-3
-    same-length-5
-    same-length-6
+    same-length-4
     returns-4)
