@@ -26,10 +26,10 @@ fn wide(b: u8) -> u64
     b as u64
 }
 
-// The word of eight bytes.
-pub fn word_at(book: &[u8], at: usize) -> u64
+// The energy of eight bytes, a word.
+pub fn word_at(book: &[u8], at: usize) -> WattHours
     requires { ⌜ at + 8 ≤ length (now book) ⌝ }
-    ensures { λ r. ⌜ r ≡ bytesAt (now (book .entry)) at ⌝ }
+    ensures { λ r. ⌜ r .0 ≡ bytesAt (now (book .entry)) at ⌝ }
 {
     let mut w = 0;
     let mut k = FIGURE_BYTES as usize;
@@ -37,7 +37,7 @@ pub fn word_at(book: &[u8], at: usize) -> u64
         k -= 1;
         w = w * BYTE + wide(book[at + k]);
     }
-    w
+    WattHours(w)
 }
 
 fn in_range(quarters: u64, run: u64, group: u64, quarter: u64) -> bool
@@ -71,5 +71,5 @@ pub fn figure(book: &[u8], quarters: u64, run: u64, group: u64, quarter: u64) ->
     }
     let row = (run - 1) * limits::RUN_ROWS + (group - 1);
     let index = row * quarters + (quarter - 1);
-    WattHours(word_at(book, (FIGURE_BYTES * index) as usize))
+    word_at(book, (FIGURE_BYTES * index) as usize)
 }

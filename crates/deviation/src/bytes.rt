@@ -2,6 +2,7 @@
 use crate::Deviation;
 use crate::month::with_quarter;
 use book::figure;
+use quantity::WattHours;
 use quantity::limits;
 ghost use mathlib.Core.Path.{_≡_};
 ghost use Prim.Native.Nat.{ℕ, _+_, _*_, _≤_};
@@ -37,12 +38,12 @@ pub fn report_refusal(book: &[u8], schedules: &[u8], quarters: u64, run: u64, gr
 // Both sums of n energies from `planned` on and n figures from `booked` on.
 fn sums_of(schedules: &[u8], planned: usize, book: &[u8], booked: usize, n: usize) -> Deviation
     requires { ⌜ (8 * (planned + n) ≤ length (now schedules)) × (8 * (booked + n) ≤ length (now book)) ⌝ }
-    ensures { λ r. ⌜ (r .surplus ≡ overSum (λ (k : ℕ). bytesAt (now (schedules .entry)) (8 * (planned + k))) (λ (k : ℕ). bytesAt (now (book .entry)) (8 * (booked + k))) n) × (r .shortfall ≡ overSum (λ (k : ℕ). bytesAt (now (book .entry)) (8 * (booked + k))) (λ (k : ℕ). bytesAt (now (schedules .entry)) (8 * (planned + k))) n) ⌝ }
+    ensures { λ r. ⌜ (r .surplus .0 ≡ overSum (λ (k : ℕ). bytesAt (now (schedules .entry)) (8 * (planned + k))) (λ (k : ℕ). bytesAt (now (book .entry)) (8 * (booked + k))) n) × (r .shortfall .0 ≡ overSum (λ (k : ℕ). bytesAt (now (book .entry)) (8 * (booked + k))) (λ (k : ℕ). bytesAt (now (schedules .entry)) (8 * (planned + k))) n) ⌝ }
 {
     let size = figure::FIGURE_BYTES as usize;
     let mut sums = Deviation {
-        surplus: 0,
-        shortfall: 0,
+        surplus: WattHours(0),
+        shortfall: WattHours(0),
     };
     let mut k = 0;
     while k < n {
@@ -56,12 +57,12 @@ fn sums_of(schedules: &[u8], planned: usize, book: &[u8], booked: usize, n: usiz
 
 // Both sums of a run and group, 0 where it is refused.
 pub fn report(book: &[u8], schedules: &[u8], quarters: u64, run: u64, group: u64) -> Deviation
-    ensures { λ r. ⌜ (r .surplus ≡ surplusIn (now (book .entry)) (now (schedules .entry)) quarters run group) × (r .shortfall ≡ shortfallIn (now (book .entry)) (now (schedules .entry)) quarters run group) ⌝ }
+    ensures { λ r. ⌜ (r .surplus .0 ≡ surplusIn (now (book .entry)) (now (schedules .entry)) quarters run group) × (r .shortfall .0 ≡ shortfallIn (now (book .entry)) (now (schedules .entry)) quarters run group) ⌝ }
 {
     if report_refusal(book, schedules, quarters, run, group) != 0 {
         return Deviation {
-            surplus: 0,
-            shortfall: 0,
+            surplus: WattHours(0),
+            shortfall: WattHours(0),
         };
     }
     let planned = (group - 1) * quarters;

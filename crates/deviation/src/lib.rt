@@ -2,8 +2,10 @@
 pub mod bytes;
 pub mod month;
 
-// Both sums in watt-hours, each a 64-bit word in two's complement.
+use quantity::WattHours;
+
+// Both sums, each a 64-bit word in two's complement.
 pub struct Deviation {
-    pub surplus: u64,
-    pub shortfall: u64,
+    pub surplus: WattHours,
+    pub shortfall: WattHours,
 }

@@ -25,31 +25,30 @@ fn over(a: WattHours, b: WattHours) -> WattHours
 }
 
 // Both sums with one quarter hour more.
-pub fn with_quarter(sums: Deviation, schedule: u64, figure: u64) -> Deviation
-    ensures { λ r. ⌜ (r .surplus ≡ plus (sums .surplus) (over schedule figure)) × (r .shortfall ≡ plus (sums .shortfall) (over figure schedule)) ⌝ }
+pub fn with_quarter(sums: Deviation, schedule: WattHours, figure: WattHours) -> Deviation
+    ensures { λ r. ⌜ (r .surplus .0 ≡ plus (sums .surplus .0) (over (schedule .0) (figure .0))) × (r .shortfall .0 ≡ plus (sums .shortfall .0) (over (figure .0) (schedule .0))) ⌝ }
 {
-    let more = over(WattHours(schedule), WattHours(figure));
-    let less = over(WattHours(figure), WattHours(schedule));
-    let surplus = word::sum(WattHours(sums.surplus), more);
-    let shortfall = word::sum(WattHours(sums.shortfall), less);
-    Deviation {
-        surplus: surplus.0,
-        shortfall: shortfall.0,
-    }
+    let more = over(schedule, figure);
+    let less = over(figure, schedule);
+    let surplus = word::sum(sums.surplus, more);
+    let shortfall = word::sum(sums.shortfall, less);
+    Deviation { surplus, shortfall }
 }
 
 // Both sums of a group's schedule and its figures.
 pub fn deviation_of(schedule: &[u64], figures: &[u64]) -> Deviation
     requires { ⌜ length (now figures) ≡ length (now schedule) ⌝ }
-    ensures { λ r. ⌜ (r .surplus ≡ overSum (wordFrom (now (schedule .entry)) 0) (wordFrom (now (figures .entry)) 0) (length (now (schedule .entry)))) × (r .shortfall ≡ overSum (wordFrom (now (figures .entry)) 0) (wordFrom (now (schedule .entry)) 0) (length (now (schedule .entry)))) ⌝ }
+    ensures { λ r. ⌜ (r .surplus .0 ≡ overSum (wordFrom (now (schedule .entry)) 0) (wordFrom (now (figures .entry)) 0) (length (now (schedule .entry)))) × (r .shortfall .0 ≡ overSum (wordFrom (now (figures .entry)) 0) (wordFrom (now (schedule .entry)) 0) (length (now (schedule .entry)))) ⌝ }
 {
     let mut sums = Deviation {
-        surplus: 0,
-        shortfall: 0,
+        surplus: WattHours(0),
+        shortfall: WattHours(0),
     };
     let mut i = 0;
     while i < schedule.len() {
-        sums = with_quarter(sums, schedule[i], figures[i]);
+        let planned = schedule[i];
+        let taken = figures[i];
+        sums = with_quarter(sums, WattHours(planned), WattHours(taken));
         i += 1;
     }
     sums
@@ -64,7 +63,7 @@ pub fn month_deviation(
     group: usize,
 ) -> Deviation
     requires { ⌜ Reported (length (now schedules)) (length (now book)) quarters run group ⌝ }
-    ensures { λ r. ⌜ (r .surplus ≡ monthSurplus (now (schedules .entry)) (now (book .entry)) quarters run group) × (r .shortfall ≡ monthShortfall (now (schedules .entry)) (now (book .entry)) quarters run group) ⌝ }
+    ensures { λ r. ⌜ (r .surplus .0 ≡ monthSurplus (now (schedules .entry)) (now (book .entry)) quarters run group) × (r .shortfall .0 ≡ monthShortfall (now (schedules .entry)) (now (book .entry)) quarters run group) ⌝ }
 {
     let planned = (group - 1) * quarters;
     let booked = row_start(run, group - 1, quarters);

@@ -31,7 +31,7 @@ pub extern "C" fn emorizugu_surplus(
     ensures { λ r. ⌜ r ≡ surplusIn (now (book .entry)) (now (schedules .entry)) quarters run group ⌝ }
 {
     let sums = report(book, schedules, quarters, run, group);
-    sums.surplus
+    sums.surplus.0
 }
 
 // The shortfall likewise.
@@ -46,5 +46,5 @@ pub extern "C" fn emorizugu_shortfall(
     ensures { λ r. ⌜ r ≡ shortfallIn (now (book .entry)) (now (schedules .entry)) quarters run group ⌝ }
 {
     let sums = report(book, schedules, quarters, run, group);
-    sums.shortfall
+    sums.shortfall.0
 }

@@ -3,10 +3,11 @@ pub mod lodge;
 pub mod report;
 
 use model::Answer;
+use quantity::WattHours;
 
-// The answer of a report, and both sums over the month in watt-hours, each a 64-bit word in two's complement; both 0 when refused.
+// The answer of a report, and both sums over the month, each a 64-bit word in two's complement; both 0 when refused.
 pub struct ReportAnswer {
     pub answer: Answer,
-    pub surplus: u64,
-    pub shortfall: u64,
+    pub surplus: WattHours,
+    pub shortfall: WattHours,
 }

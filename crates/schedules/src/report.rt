@@ -7,6 +7,7 @@ use deviation::month::month_deviation;
 use model::Answer;
 use model::Cause;
 use model::Ruling;
+use quantity::WattHours;
 use quantity::limits::group_ok;
 use quantity::limits::run_ok;
 use state::Desk;
@@ -29,24 +30,26 @@ pub fn report_ruling(d: Desk, booked: u64, planned: u64, run: u64, group: u64) -
 }
 
 pub fn report(d: Desk, run: u64, group: u64, book: &[u64], schedules: &[u64]) -> ReportAnswer
-    ensures { λ r. ⌜ Reported d (reports run group) (now (book .entry)) (now (schedules .entry)) (r .answer) (r .surplus) (r .shortfall) ⌝ }
+    ensures { λ r. ⌜ Reported d (reports run group) (now (book .entry)) (now (schedules .entry)) (r .answer) (r .surplus .0) (r .shortfall .0) ⌝ }
 {
     let v = report_ruling(d, book.len() as u64, schedules.len() as u64, run, group);
     match v {
         Ruling::Refuse(c) => ReportAnswer {
             answer: Answer::Refused(c),
-            surplus: 0,
-            shortfall: 0,
+            surplus: WattHours(0),
+            shortfall: WattHours(0),
         },
         Ruling::Fine => {
             let frame = d.frame;
             let opening = frame.opening;
             let q = opening.quarters as usize;
             let sums = month_deviation(schedules, book, q, run as usize, group as usize);
+            let surplus = sums.surplus;
+            let shortfall = sums.shortfall;
             ReportAnswer {
                 answer: Answer::Accepted,
-                surplus: sums.surplus,
-                shortfall: sums.shortfall,
+                surplus,
+                shortfall,
             }
         }
     }

@@ -84,8 +84,8 @@ fn run_report(
     let r = report(d, run, group, book, schedules);
     let answer = r.answer;
     let told = put(out, at, number_in(answer));
-    let over = put(out, told, r.surplus);
-    put(out, over, r.shortfall)
+    let over = put(out, told, r.surplus.0);
+    put(out, over, r.shortfall.0)
 }
 
 // The answer goes to a place of the output.

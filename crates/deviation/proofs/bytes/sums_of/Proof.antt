@@ -12,8 +12,8 @@ use Rattle.deviation.proofs.bytes.sums_of.Tie as tie
 abbrev Inv-loop : tie.InvT-loop
 Inv-loop schedules planned book booked n size sums₀ k₀ sums k =
     (k ≤ n) × (8 * (planned + n) ≤ length schedules) × (8 * (booked + n) ≤ length book)
-    × (sums .surplus ≡ overSum (λ (i : ℕ). bytesAt schedules (8 * (planned + i))) (λ (i : ℕ). bytesAt book (8 * (booked + i))) k)
-    × (sums .shortfall ≡ overSum (λ (i : ℕ). bytesAt book (8 * (booked + i))) (λ (i : ℕ). bytesAt schedules (8 * (planned + i))) k)
+    × (sums .surplus .0 ≡ overSum (λ (i : ℕ). bytesAt schedules (8 * (planned + i))) (λ (i : ℕ). bytesAt book (8 * (booked + i))) k)
+    × (sums .shortfall .0 ≡ overSum (λ (i : ℕ). bytesAt book (8 * (booked + i))) (λ (i : ℕ). bytesAt schedules (8 * (planned + i))) k)
 
 abbrev μ-loop : tie.MeasureT-loop
 μ-loop schedules planned book booked n size sums₀ k₀ sums k = n - k

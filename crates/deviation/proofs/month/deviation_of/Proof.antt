@@ -12,7 +12,7 @@ use Rattle.deviation.proofs.month.deviation_of.Tie as tie
 abbrev Inv-loop : tie.InvT-loop
 Inv-loop schedule figures sums₀ i₀ sums i =
     (i ≤ length schedule) × (length figures ≡ length schedule)
-    × (sums .surplus ≡ overSum (wordFrom schedule 0) (wordFrom figures 0) i) × (sums .shortfall ≡ overSum (wordFrom figures 0) (wordFrom schedule 0) i)
+    × (sums .surplus .0 ≡ overSum (wordFrom schedule 0) (wordFrom figures 0) i) × (sums .shortfall .0 ≡ overSum (wordFrom figures 0) (wordFrom schedule 0) i)
 
 abbrev μ-loop : tie.MeasureT-loop
 μ-loop schedule figures sums₀ i₀ sums i = length schedule - i
@@ -20,17 +20,17 @@ abbrev μ-loop : tie.MeasureT-loop
 loop-holds : tie.Need-loop-holds Inv-loop μ-loop
 loop-holds c = (search needs, search needs, over-sum-none _ _, over-sum-none _ _)
 
-mul-with-quarter : tie.Need-mul-with-quarter Inv-loop μ-loop
-mul-with-quarter c = search needs
+mul-planned : tie.Need-mul-planned Inv-loop μ-loop
+mul-planned c = search needs
 
-shared-slice-read-with-quarter : tie.Need-shared-slice-read-with-quarter Inv-loop μ-loop
-shared-slice-read-with-quarter c = search needs
+shared-slice-read-planned : tie.Need-shared-slice-read-planned Inv-loop μ-loop
+shared-slice-read-planned c = search needs
 
-mul-with-quarter-2 : tie.Need-mul-with-quarter-2 Inv-loop μ-loop
-mul-with-quarter-2 c = search needs
+mul-taken : tie.Need-mul-taken Inv-loop μ-loop
+mul-taken c = search needs
 
-shared-slice-read-with-quarter-2 : tie.Need-shared-slice-read-with-quarter-2 Inv-loop μ-loop
-shared-slice-read-with-quarter-2 c = search needs
+shared-slice-read-taken : tie.Need-shared-slice-read-taken Inv-loop μ-loop
+shared-slice-read-taken c = search needs
 
 with-quarter-requires : tie.Need-with-quarter-requires Inv-loop μ-loop
 with-quarter-requires c κs = search needs
@@ -62,10 +62,10 @@ deviation-of-spec =
     Inv-loop
     μ-loop
     loop-holds
-    mul-with-quarter
-    shared-slice-read-with-quarter
-    mul-with-quarter-2
-    shared-slice-read-with-quarter-2
+    mul-planned
+    shared-slice-read-planned
+    mul-taken
+    shared-slice-read-taken
     with-quarter-requires
     add-i
     loop-less

@@ -24,8 +24,8 @@ returns c s = report-refused _ _ _ (c .before .before .before .report-ruling .en
 
 returns-2 : tie.Need-returns-2
 returns-2 c s =
-    let e = c .month-deviation .ensures in
-    report-granted _ _ _ (c .before .before .before .before .before .report-ruling .ensures (lengthsOf s)) (c .before .before .before .enum-told .given .1)
+    let e = c .before .before .month-deviation .ensures in
+    report-granted _ _ _ (c .before .before .before .before .before .before .before .report-ruling .ensures (lengthsOf s)) (c .before .before .before .before .before .enum-told .given .1)
     (record { answered = refl; over = e .0; under = e .1 })
 
 pub report-spec : {M : Type 1} → statement M
