@@ -82,7 +82,7 @@ storesAfter (byStatus p x answer desk) = storesOf [] [] [] []
 storesAfter (byLodge group day es schedules answer desk schedules′) = storesOf [] [] [] schedules′
 storesAfter (byReport run group book schedules answer surplus shortfall) = storesOf [] book [] schedules
 
--- its contract on this desk, as its code has it
+-- its contract on this desk: the code of open, apply and lodge ensures this very definition, and of the others proofs/Contracts has that their contracts give it
 abbrev pub Meets : Desk → Entered → Type 0
 Meets d (byOpen q f c k gs lending answer desk book schedules) =
     WholeStepped d (opens q (f .0) (c .0) (k .0) gs) lending answer desk (withSchedules (withBook lending book) schedules)

@@ -4,10 +4,8 @@ use message::DeskCall;
 use model::Answer;
 use quantity::limits::DELTAS;
 use state::Desk;
-ghost use mathlib.Core.List.{map};
-ghost use Rattle.quantity.specs.Word.{signed};
-ghost use Rattle.checks.specs.Stepped.{WholeStepped, storesOf};
-ghost use Rattle.dispatch.specs.Asked.{asked};
+ghost use Rattle.checks.specs.Stepped.{storesOf};
+ghost use Rattle.entry.specs.Entered.{byApply, Meets};
 
 // The groups are an opening's, the series a submission's energies, as many as it has; of another call any. A store that the call does not
 // take may have any length and stays as it is.
@@ -21,7 +19,7 @@ pub fn apply(
     log: &mut [u64],
     schedules: &mut [u64],
 ) -> Answer
-    ensures { λ r. ⌜ WholeStepped (now (d .entry)) (asked call groups (map signed (now (series .entry)))) (storesOf (now (values .entry)) (now (book .entry)) (now (log .entry)) (now (schedules .entry))) r (now (d .exit)) (storesOf (now (values .exit)) (now (book .exit)) (now (log .exit)) (now (schedules .exit))) ⌝ }
+    ensures { λ r. ⌜ Meets (now (d .entry)) (byApply call groups (now (series .entry)) (storesOf (now (values .entry)) (now (book .entry)) (now (log .entry)) (now (schedules .entry))) r (now (d .exit)) (storesOf (now (values .exit)) (now (book .exit)) (now (log .exit)) (now (schedules .exit)))) ⌝ }
 {
     let out = core(*d, call, groups, series, values, book, log, schedules);
     *d = out.desk;

@@ -4,8 +4,8 @@ use model::Answer;
 use quantity::Day;
 use quantity::limits::DELTAS;
 use state::Desk;
-ghost use Rattle.model.specs.Call.{opens};
-ghost use Rattle.checks.specs.Stepped.{WholeStepped, storesOf};
+ghost use Rattle.checks.specs.Stepped.{storesOf};
+ghost use Rattle.entry.specs.Entered.{byOpen, Meets};
 
 // The 17 delta groups: T's, then those of the areas 1 to 16.
 pub fn open(
@@ -20,7 +20,7 @@ pub fn open(
     log: &[u64],
     schedules: &mut [u64],
 ) -> Answer
-    ensures { λ r. ⌜ WholeStepped (now (d .entry)) (opens quarters (first .0) (clearing .0) (correction .0) groups) (storesOf (now (values .entry)) (now (book .entry)) (now (log .entry)) (now (schedules .entry))) r (now (d .exit)) (storesOf (now (values .entry)) (now (book .exit)) (now (log .entry)) (now (schedules .exit))) ⌝ }
+    ensures { λ r. ⌜ Meets (now (d .entry)) (byOpen quarters first clearing correction groups (storesOf (now (values .entry)) (now (book .entry)) (now (log .entry)) (now (schedules .entry))) r (now (d .exit)) (now (book .exit)) (now (schedules .exit))) ⌝ }
 {
     let out = core(
         *d,
