@@ -30,7 +30,7 @@ module _ (s : Stores) (n : Lengths) (e : lengthsOf s ≡ n) (l : List Call) wher
     pub same-figure : (run k j : ℕ) → 1 ≤ run → run ≤ runs → k < runRows → j < q → runningDesk s .figures l run k j ≡ plainDesk n .figures l run k j
     same-figure run k j a b c h = both .figures run k j a b c (omega (arith, ap (λ (o : Opening). o .quarters) (both .opening)))
 
-    pub same-total : (run j : ℕ) → 1 ≤ run → run ≤ runs → j < q → total (runningDesk s) l run j ≡ total (plainDesk n) l run j
+    same-total : (run j : ℕ) → 1 ≤ run → run ≤ runs → j < q → total (runningDesk s) l run j ≡ total (plainDesk n) l run j
     same-total run j a b h =
         sum-same groups (λ (g : ℕ). runningDesk s .figures l run (groupRow g) j) (λ (g : ℕ). plainDesk n .figures l run (groupRow g) j) (λ i lo hi. same-figure run (groupRow i) j a b (omega arith) h)
 

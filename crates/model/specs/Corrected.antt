@@ -119,19 +119,20 @@ pub record Corrected (d : Account) : Type 0 where
   pub group1 : Booked d 1 0 (pos 5000) (pos 11500)
   pub group5 : Booked d 1 4 (pos 50000) (pos 45000)
   pub group7 : Booked d 1 6 (pos 0) (pos 0)
-  pub total1 : Totalled d 1 (pos 95000) (pos 85000)
   -- run 2: both corrections, and run 1's where it has none
   pub delta1Corrected : Booked d 2 65 (pos 12000) (pos 6500)
   pub group1Corrected : Booked d 2 0 (pos 0) (pos 0)
   pub group5Corrected : Booked d 2 4 (pos 52000) (pos 44000)
   pub group7Corrected : Booked d 2 6 (pos 12000) (pos 6500)
-  pub total2 : Totalled d 2 (pos 104000) (pos 79000)
   -- in both: the exchange between areas is the one of day C on both its sides; delta T has no correction
   pub delta2 : BothBooked d 66 (pos 31200) (pos 20400)
   pub group2 : BothBooked d 1 (pos 31200) (pos 20400)
   pub deltaT : BothBooked d 64 (pos 300) (negsuc 99)
-  pub group4 : BothBooked d 3 (pos 300) (negsuc 99)
-  pub group6 : BothBooked d 5 (pos 8500) (pos 8200)
   -- "S 1 1 2 3", "S 1 2 2 3", "S 1 3 1 3", "S 1 4 1 3"; "S 2 1 3 5", "S 2 2 2 3", "S 2 3 2 5", "S 2 4 1 3"
   pub selects : Selects d 1 1 2 3 × (Selects d 1 2 2 3 × (Selects d 1 3 1 3 × Selects d 1 4 1 3))
   pub selectsCorrected : Selects d 2 1 3 5 × (Selects d 2 2 2 3 × (Selects d 2 3 2 5 × Selects d 2 4 1 3))
+
+-- the totals of both runs: "the 64 group figures add up to the outside exchange"
+pub record CorrectedTotals (d : Account) : Type 0 where
+  pub total1 : Totalled d 1 (pos 95000) (pos 85000)
+  pub total2 : Totalled d 2 (pos 104000) (pos 79000)
