@@ -823,7 +823,7 @@ def without_functions(text):
     for l in text.split('\n'):
         used = re.match(r'use ([\w:]+?)(?: as (\w+))?;', l)
         name = used and (used.group(2) or used.group(1).split('::')[-1])
-        if l.startswith('ghost use') or used and len(re.findall(rf'\b{name}\b', re.sub(r'^use .*', '', text, flags=re.M))) == 0:
+        if l.startswith('ghost use') or used and len(re.findall(rf'\b{name}\b', re.sub(r'^use .*|//.*', '', text, flags=re.M))) == 0:
             continue
         kept.append(l)
     return '\n'.join(kept)
