@@ -13,9 +13,9 @@ use Rattle.replay.specs.Said.{SaysAll}
 use Rattle.output.specs.Laws.{fileOf, callsOf, toldOf}
 
 -- whose answers, figures and selections the lines are: those of the calls that the first 65,536 bytes say, up to their end or their first refusal
-pub program-told : {input left : List ℕ} {calls : List Call} → SaysAll 2980 (fileOf input) calls left → callsIn 2980 left .calls ≡ []
+pub program-told : (input : List ℕ) {left : List ℕ} {calls : List Call} → SaysAll 2980 (fileOf input) calls left → callsIn 2980 left .calls ≡ []
     → toldOf input ≡ tells (record { values = 4096; book = 1296; log = 2048; schedules = 512 }) [] calls
-program-told said ended = file-told 2980 said ended (record { values = 4096; book = 1296; log = 2048; schedules = 512 })
+program-told input said ended = file-told 2980 said ended (record { values = 4096; book = 1296; log = 2048; schedules = 512 })
 
 -- and of any input they are those of the calls that its bytes say
 pub program-said : (input : List ℕ) → areBytes (fileOf input) ≡ true → SaysAll 2980 (fileOf input) (map given (givenIn (callsOf input))) (callsIn 2980 (fileOf input) .left)
