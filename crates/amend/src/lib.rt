@@ -1,4 +1,6 @@
 // The book and the log after a change of a point's versions, or of a delta's group.
+#![tactic(auto)]
+
 pub mod copies;
 pub mod delta;
 pub mod log;

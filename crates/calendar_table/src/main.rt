@@ -1,4 +1,6 @@
 // Prints the calendar's table, an entry a line, worked out by the rule: what crates/calendar/src/table.rt holds.
+#![tactic(auto)]
+
 ghost use Rattle.std.specs.Prelude.{◌+◌, ◌≤◌, length};
 ghost use Rattle.text.specs.Text.{Put};
 ghost use Rattle.calendar_table.specs.Table.{line_of, table_text};

@@ -1,4 +1,6 @@
 // The calls open, activate, deactivate, status, assign, show, close and issue. The state goes in by value and comes back.
+#![tactic(auto)]
+
 pub mod activate;
 pub mod assign;
 pub mod close;

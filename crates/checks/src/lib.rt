@@ -1,4 +1,6 @@
 // What every call begins and ends with: the limits of cause 1, one look at the desk, the table of causes check by check, what is decided.
+#![tactic(auto)]
+
 pub mod decisions;
 pub mod limits;
 pub mod looks;
@@ -16,7 +18,7 @@ use state::{Desk, Effect, Held, PointState, Selection};
 
 // What one walk over the versions finds: the version asked for, and of the point asked for the highest version (0 without one), run 1's selection and
 // run 2's own; and how many records it read.
-#[derive(Drop)]
+#[derive(Clone, Copy)]
 pub struct Survey {
     pub held: Held,
     pub highest: Version,
@@ -26,14 +28,14 @@ pub struct Survey {
 }
 
 // The same, and whether each record held is within its limits.
-#[derive(Drop)]
+#[derive(Clone, Copy)]
 pub struct Tested {
     pub fit: bool,
     pub survey: Survey,
 }
 
 // Run 1's selection of a point, and run 2's own.
-#[derive(Drop)]
+#[derive(Clone, Copy)]
 pub struct PointPicks {
     pub first: Selection,
     pub second: Selection,
@@ -41,7 +43,7 @@ pub struct PointPicks {
 
 // What one walk over the points finds: whether each record is within its limits, and whether an active point has the kind, area and
 // partner asked for.
-#[derive(Drop)]
+#[derive(Clone, Copy)]
 pub struct Scan {
     pub fit: bool,
     pub taken: bool,
@@ -49,7 +51,7 @@ pub struct Scan {
 
 // What a look at the desk tells: whether it is within its limits (cause 1), the state of the point asked for, and where a call asks for it
 // whether an active point has the series, and what the versions have of the point and version.
-#[derive(Drop)]
+#[derive(Clone, Copy)]
 pub struct Look {
     pub valid: bool,
     pub here: PointState,
@@ -58,7 +60,7 @@ pub struct Look {
 }
 
 // The lengths of values, book and log as they are lent to a call.
-#[derive(Drop)]
+#[derive(Clone, Copy)]
 pub struct Sizes {
     pub values: u64,
     pub book: u64,
@@ -66,14 +68,14 @@ pub struct Sizes {
 }
 
 // The answer of a call, and what it makes of the desk.
-#[derive(Drop)]
+#[derive(Clone, Copy)]
 pub struct Decided {
     pub answer: Answer,
     pub effect: Effect,
 }
 
 // The answer of a call, and the desk after it.
-#[derive(Drop)]
+#[derive(Clone, Copy)]
 pub struct Outcome {
     pub answer: Answer,
     pub desk: Desk,

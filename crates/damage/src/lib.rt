@@ -1,4 +1,6 @@
 // For tests only: a desk with one field overwritten, as no call would do it, so that cause 1 can be tried field by field.
+#![tactic(auto)]
+
 ghost use Rattle.std.specs.Prelude.{◌≡◌};
 ghost use Rattle.damage.specs.Record.{status_by, record_by};
 

@@ -1,4 +1,6 @@
 // The desk program: a message file from standard input through the desk; answers and figures to standard output.
+#![tactic(auto)]
+
 use libc::{STDERR_FILENO, STDIN_FILENO, STDOUT_FILENO};
 use output::Filled;
 

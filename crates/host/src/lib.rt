@@ -1,4 +1,6 @@
 // What the host program, written in C, reads: plain numbers and byte slices.
+#![tactic(auto)]
+
 pub mod call;
 pub mod days;
 pub mod figure;

@@ -1,7 +1,7 @@
 -- How far blocks of bytes have been passed, and each byte of them. Assumes nothing.
 use Prim.Native.Nat.{ℕ, zero, suc, ◌+◌, ◌-◌, ◌<◌, ◌≤◌}
 use mathlib.Core.Path.{◌≡◌, refl, sym, ap, ◌∙◌}
-use mathlib.Core.Bool.{true, false, not, ◌&&◌, ◌||◌, false≢true}
+use mathlib.Core.Bool.{true, not, ◌&&◌, ◌||◌, false≢true}
 use mathlib.Core.List.{List, [], ◌∷◌, ◌++◌}
 use native.Mathlib.Omega.{arith}
 use native.Mathlib.Numerals.{add-one}
@@ -10,9 +10,7 @@ use borrow.Author.Tests.{lt-ltb, le-ltb, ltb-true}
 use lib.Dec.{ltb, eqb}
 use lib.ListN.{length, get_or}
 use Rattle.quantity.proofs.Tests.{and-left, and-right}
-use Rattle.message.specs.Offset.{number_at}
 use Rattle.message.specs.Block.{goes_on, standing, stands, sound_to, more_to, begin_of, Reaches}
-use Rattle.message.specs.declared.NumberRead.TheVariants.{Number}
 use Rattle.message.proofs.Bytes.{GoOn, ends-at}
 use Rattle.message.proofs.Passing.{Passing, started, one-more, left-same}
 

@@ -6,9 +6,9 @@ use mathlib.Core.List.{List}
 use native.Mathlib.Omega.{arith}
 use native.Mathlib.Decide.{dec_lt}
 use lib.ListN.{length, drop, get_or}
-use Rattle.message.specs.Read.{Read, accepted}
+use Rattle.message.specs.Read.{accepted}
 use Rattle.message.specs.Number.{decode}
-use Rattle.message.specs.Offset.{itself, number_of, number_at}
+use Rattle.message.specs.Offset.{number_at}
 use Rattle.message.specs.declared.NumberRead.TheVariants.{Number}
 use Rattle.message.proofs.NumberSteps.{Reading, not-refused, there, not-zero, last-as, more, moved, none-at, only-at, first-at, second-at}
 

@@ -1,4 +1,6 @@
 // The message file: numbers, energies, calls, whole files. What is read and what is written are each other's inverse.
+#![tactic(auto)]
+
 pub mod call;
 pub mod cause;
 pub mod energy;
@@ -10,7 +12,7 @@ pub mod series;
 use quantity::{Day, PointNo, Version};
 
 // Why a file or a call is refused: 31 to 35 of the table of causes.
-#[derive(Drop)]
+#[derive(Clone, Copy)]
 pub enum FileCause {
     // The file ends inside a call.
     Cut,
@@ -25,49 +27,49 @@ pub enum FileCause {
 }
 
 // A number of the file and the offset behind it.
-#[derive(Drop)]
+#[derive(Clone, Copy)]
 pub enum NumberRead {
     Number { value: u64, next: usize },
     Refused(FileCause),
 }
 
 // A number that is known to stand in the file, and the offset behind it.
-#[derive(Drop)]
+#[derive(Clone, Copy)]
 pub struct Known {
     pub value: u64,
     pub next: usize,
 }
 
 // The offset behind what was passed over.
-#[derive(Drop)]
+#[derive(Clone, Copy)]
 pub enum Passed {
     To(usize),
     Refused(FileCause),
 }
 
 // A block of bytes: whether no byte of it makes a number that is refused, and how many have their top bit set.
-#[derive(Drop)]
+#[derive(Clone, Copy)]
 pub struct Block {
     pub sound: bool,
     pub more: u8,
 }
 
 // How many numbers were passed over, and the offset behind them.
-#[derive(Drop)]
+#[derive(Clone, Copy)]
 pub struct Reached {
     pub numbers: usize,
     pub at: usize,
 }
 
 // The verdict on a whole file: its length, or the first refusal with the offset of the refused call.
-#[derive(Drop)]
+#[derive(Clone, Copy)]
 pub enum FileVerdict {
     Whole { length: usize },
     Refused { cause: FileCause, offset: usize },
 }
 
 // A call of the desk by its kind, with its fields; an opening's 17 delta groups and a submission's energies stand beside it.
-#[derive(Drop)]
+#[derive(Clone, Copy)]
 pub enum DeskCall {
     Open {
         quarters: u64,
@@ -113,7 +115,7 @@ pub enum DeskCall {
 }
 
 // The call that a kind and fields are, or none of that kind.
-#[derive(Drop)]
+#[derive(Clone, Copy)]
 pub enum Named {
     Known(DeskCall),
     Unknown,

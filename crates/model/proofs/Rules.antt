@@ -78,8 +78,11 @@ first-decides (r ∷ l) x e = go r.holds refl (first-decides l x)
 -- and what so decides is the refusal
 pub decides-first : (l : List Rule) (x : Cause) → Decides x l → first_of l ≡ Refuse x
 unfolding first_of fold or_if
-decides-first l x (here {r = r} {l = m} h e) = rw h (stays r.cause m ∙ ap Refuse e)
-decides-first l x (below {r = r} {l = m} h D) = rw h (decides-first m x D)
+decides-first l x D = go x l D
+  where
+    go : (y : Cause) (m : List Rule) → Decides y m → first_of m ≡ Refuse y
+    go y m (here {r = r} {l = n} h e) = rw h (stays r.cause n ∙ ap Refuse e)
+    go y m (below {r = r} {l = n} h E) = rw h (go y n E)
 
 -- a refusal's cause is one of a rule that can hold
 pub refused-among : (f : Cause → Bool) (l : List Rule) → all (λ (r : Rule). f r.cause || not r.holds) l ≡ true → (x : Cause) → first_of l ≡ Refuse x → f x ≡ true

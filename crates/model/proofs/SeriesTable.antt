@@ -78,7 +78,7 @@ module _ (s : Sides) (k : ℕ) where
 
 -- ---- the table of series, line by line: any groups, areas, row and value
 
-pub series-adds : {s : PointState} {a o : ℤ} (gs : List ℕ) (k : ℕ) (v : ℤ) → Line gs k v s a o → adds (sides_of gs s) k v ≡ a
+pub series-adds : (gs : List ℕ) (k : ℕ) (v : ℤ) {s : PointState} {a o : ℤ} → Line gs k v s a o → adds (sides_of gs s) k v ≡ a
 unfolding sides_of to_side from_side on_side adds
 series-adds gs k v free = refl
 series-adds gs k v (outside d a) = +ℤ_idr (of_delta gs a k v)
@@ -88,7 +88,7 @@ series-adds gs k v (area_sum d a) = refl
 series-adds gs k v (group_sum_t d g) = refl
 series-adds gs k v (transfer d a) = refl
 
-pub series-outside : {s : PointState} {a o : ℤ} (gs : List ℕ) (k : ℕ) (v : ℤ) → Line gs k v s a o → cond (is_outside s) v (pos 0) ≡ o
+pub series-outside : (gs : List ℕ) (k : ℕ) (v : ℤ) {s : PointState} {a o : ℤ} → Line gs k v s a o → cond (is_outside s) v (pos 0) ≡ o
 unfolding is_outside
 series-outside gs k v free = refl
 series-outside gs k v (outside d a) = refl

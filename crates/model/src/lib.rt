@@ -1,10 +1,12 @@
 // The types that document 01's definitions and the calls share: causes, answers, what a call asks, selections before and after, log rows, the
 // sides of a series.
+#![tactic(auto)]
+
 use quantity::{Day, PointNo, Version};
 use state::{Selection, Status};
 
 // Why a call is refused, in the order of the table. A01 to A05 are the codes of the published decision trees.
-#[derive(Drop)]
+#[derive(Clone, Copy)]
 pub enum Cause {
     // 1
     NotOpen,
@@ -59,7 +61,7 @@ pub enum Cause {
 }
 
 // The answer of a call. An accepted status is a case of its own.
-#[derive(Drop)]
+#[derive(Clone, Copy)]
 pub enum Answer {
     Accepted,
     HasStatus(Status),
@@ -67,7 +69,7 @@ pub enum Answer {
 }
 
 // What the table says of a call: fine, or the cause that decides.
-#[derive(Drop)]
+#[derive(Clone, Copy)]
 pub enum Ruling {
     Fine,
     Refuse(Cause),
@@ -75,7 +77,7 @@ pub enum Ruling {
 
 // What a call asks of the desk: a point, 0 where there is none; whether an active point has a series; whether the point has versions, and one of
 // them by its number.
-#[derive(Drop)]
+#[derive(Clone, Copy)]
 pub struct Asks {
     pub point: PointNo,
     pub series: bool,
@@ -87,7 +89,7 @@ pub struct Asks {
 }
 
 // Run 1's selection and run 2's own for a point, before and after a call.
-#[derive(Drop)]
+#[derive(Clone, Copy)]
 pub struct Turn {
     pub old1: Selection,
     pub new1: Selection,
@@ -96,7 +98,7 @@ pub struct Turn {
 }
 
 // A row of the log: day, point, run, new version.
-#[derive(Drop)]
+#[derive(Clone, Copy)]
 pub struct LogRow {
     pub day: Day,
     pub point: PointNo,
@@ -105,14 +107,14 @@ pub struct LogRow {
 }
 
 // A log row, if one is due.
-#[derive(Drop)]
+#[derive(Clone, Copy)]
 pub enum Due {
     Nothing,
     Row(LogRow),
 }
 
 // One side of a series: no row of the book, a group's row, or a delta's row and that of its delta group.
-#[derive(Drop)]
+#[derive(Clone, Copy)]
 pub enum Side {
     Outside,
     Group(u64),
@@ -120,7 +122,7 @@ pub enum Side {
 }
 
 // Every series moves its value from one side to the other.
-#[derive(Drop)]
+#[derive(Clone, Copy)]
 pub struct Sides {
     pub to: Side,
     pub from: Side,

@@ -1,4 +1,6 @@
 // The desk program's whole output, worked out from the bytes of its input.
+#![tactic(auto)]
+
 mod figures;
 mod print;
 mod selections;
@@ -31,7 +33,7 @@ const SERIES: usize = QUARTERS as usize;
 
 const ANSWERS: usize = 21_846;
 
-#[derive(Drop)]
+#[derive(Clone, Copy)]
 pub enum Filled {
     // So many bytes of the buffer, from its start on, are the output.
     Length(usize),

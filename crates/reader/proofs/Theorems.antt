@@ -8,7 +8,6 @@ use native.Mathlib.Decide.{ℕ_discrete}
 use borrow.Author.Tests.{eq-eqb, ne_eqb}
 use lib.Dec.{eqb}
 use lib.ListN.{length, drop, get_or, length-drop, drop_of_length-le}
-use Rattle.quantity.specs.Limits.{within}
 use Rattle.message.specs.Read.{Read, got, refused}
 use Rattle.message.specs.Call.{Sent, Carried, submission, parse}
 use Rattle.message.specs.Named.{call_of, later_call_of, groups_of}

@@ -1,4 +1,6 @@
 // The reader: one call from a start in a lent file, with a lent series buffer.
+#![tactic(auto)]
+
 ghost use Rattle.std.specs.Prelude.{◌≡◌, ◌≤◌, length, drop};
 ghost use Rattle.message.specs.Number.{numbers_in};
 ghost use Rattle.message.specs.Call.{most_fields, kind_in};
@@ -11,14 +13,14 @@ use message::{DeskCall, FileCause, Named, NumberRead, Passed, call, number, seri
 use quantity::limits::DELTAS;
 
 // Fields that were passed, with 0 behind them.
-#[derive(Drop)]
+#[derive(Clone, Copy)]
 pub struct FieldsRead {
     pub passed: Passed,
     pub fields: [u64; MOST_FIELDS],
 }
 
 // What stands at an offset of a file.
-#[derive(Drop)]
+#[derive(Clone, Copy)]
 pub enum Step {
     // A call, how many energies of it stand in the series buffer, and the offset behind it.
     Call {
@@ -36,7 +38,7 @@ pub enum Step {
 }
 
 // What stands at an offset, and the numbers behind a call's first four: an opening's delta groups.
-#[derive(Drop)]
+#[derive(Clone, Copy)]
 pub struct Reading {
     pub step: Step,
     pub groups: [u64; DELTAS as usize],

@@ -1,4 +1,6 @@
 // A whole message file through a fresh desk: each call is read and handed on, its answer kept.
+#![tactic(auto)]
+
 pub mod lending;
 pub mod run;
 
@@ -10,7 +12,7 @@ use message::FileCause;
 use state::Desk;
 
 // How a replay ends.
-#[derive(Drop)]
+#[derive(Clone, Copy)]
 pub enum Ending {
     // The file ends; every call of it is answered.
     End,
@@ -21,7 +23,7 @@ pub enum Ending {
 }
 
 // How many calls are answered, how the file ended, and the desk then.
-#[derive(Drop)]
+#[derive(Clone, Copy)]
 pub struct Replayed {
     pub answered: usize,
     pub ending: Ending,

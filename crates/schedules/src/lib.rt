@@ -1,4 +1,6 @@
 // Schedules: a group's plan is lodged, and reported against its figures.
+#![tactic(auto)]
+
 pub mod lodge;
 pub mod report;
 
@@ -6,7 +8,7 @@ use model::Answer;
 use quantity::WattHours;
 
 // The answer of a report, and both sums over the month, each a 64-bit word in two's complement; both 0 when refused.
-#[derive(Drop)]
+#[derive(Clone, Copy)]
 pub struct ReportAnswer {
     pub answer: Answer,
     pub surplus: WattHours,

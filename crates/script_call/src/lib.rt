@@ -1,4 +1,6 @@
 // For tests and benchmarks only: a call of a script, run on the desk.
+#![tactic(auto)]
+
 pub mod call;
 pub mod record;
 mod via;
@@ -6,7 +8,7 @@ mod via;
 use state::Desk;
 
 // The desk after a record, and the next place of the output.
-#[derive(Drop)]
+#[derive(Clone, Copy)]
 pub struct Ran {
     pub desk: Desk,
     pub next: usize,

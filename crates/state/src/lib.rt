@@ -1,6 +1,8 @@
 // The desk's state: its points, its versions, what the opening fixed. It goes into a call by value and comes back. What a call makes of it is an
 // effect: at most one record of a table and what stands beside the tables; an issue goes over the whole version table.
 // The fields of the two tables are narrow, since the state is copied; a number from outside is tested before it is narrowed.
+#![tactic(auto)]
+
 pub mod changes;
 pub mod effects;
 pub mod fresh;
@@ -13,31 +15,31 @@ use quantity::limits::{DELTAS, POINTS, VERSIONS};
 use quantity::{Day, Version};
 
 // A day from 0 to 400.
-#[derive(Drop)]
+#[derive(Clone, Copy)]
 pub struct ShortDay(pub u16);
 
 // A point from 1 to 256.
-#[derive(Drop)]
+#[derive(Clone, Copy)]
 pub struct ShortPoint(pub u16);
 
 // The kind of a series, from 1 to 5.
-#[derive(Drop)]
+#[derive(Clone, Copy)]
 pub struct Kind(pub u8);
 
 // An area from 1 to 16, or 0.
-#[derive(Drop)]
+#[derive(Clone, Copy)]
 pub struct Area(pub u8);
 
 // The other side of a series: an area, a balance group, or 0.
-#[derive(Drop)]
+#[derive(Clone, Copy)]
 pub struct Partner(pub u8);
 
 // A row of values: row i begins at i × Q.
-#[derive(Drop)]
+#[derive(Clone, Copy)]
 pub struct Row(pub u16);
 
 // "a point is either free or active since a day, with its kind, area and partner"
-#[derive(Drop)]
+#[derive(Clone, Copy)]
 pub enum PointState {
     Free,
     Active {
@@ -48,13 +50,13 @@ pub enum PointState {
     },
 }
 
-#[derive(Drop)]
+#[derive(Clone, Copy)]
 pub struct PointRecord {
     pub state: PointState,
 }
 
 // Check data, settlement data, settled, correction settlement data, correction settled.
-#[derive(Drop)]
+#[derive(Clone, Copy)]
 pub enum Status {
     Check,
     Settlement,
@@ -63,7 +65,7 @@ pub enum Status {
     CorrectionSettled,
 }
 
-#[derive(Drop)]
+#[derive(Clone, Copy)]
 pub struct VersionRecord {
     pub version: Version,
     pub point: ShortPoint,
@@ -72,7 +74,7 @@ pub struct VersionRecord {
 }
 
 // What the opening fixes: Q (0: not open), the deadlines F, C and K, the lengths of the four stores.
-#[derive(Drop)]
+#[derive(Clone, Copy)]
 pub struct Opening {
     pub quarters: u64,
     pub first: Day,
@@ -85,14 +87,14 @@ pub struct Opening {
 }
 
 // A flag for each run.
-#[derive(Drop)]
+#[derive(Clone, Copy)]
 pub struct Runs {
     pub first: bool,
     pub second: bool,
 }
 
 // The delta groups of T and of areas 1 to 16, for each run.
-#[derive(Drop)]
+#[derive(Clone, Copy)]
 pub struct DeltaGroups {
     pub first: [u64; DELTAS as usize],
     pub second: [u64; DELTAS as usize],
@@ -100,7 +102,7 @@ pub struct DeltaGroups {
 
 // What stands beside the two tables: what the opening fixed, the day, the delta groups, how many versions are held, how many rows of the log
 // are used, the runs closed and the runs issued.
-#[derive(Drop)]
+#[derive(Clone, Copy)]
 pub struct Frame {
     pub opening: Opening,
     pub day: Day,
@@ -112,7 +114,7 @@ pub struct Frame {
 }
 
 // The first `count` records of `versions` are the versions held, in the order of their submission; what stands past them is unused.
-#[derive(Drop)]
+#[derive(Clone, Copy)]
 pub struct Desk {
     pub frame: Frame,
     pub points: [PointRecord; POINTS as usize],
@@ -120,7 +122,7 @@ pub struct Desk {
 }
 
 // A row of the version table: its index, the number of the version there, its row of values and its status.
-#[derive(Drop)]
+#[derive(Clone, Copy)]
 pub struct VersionRow {
     pub at: u64,
     pub version: Version,
@@ -129,21 +131,21 @@ pub struct VersionRow {
 }
 
 // The version that a run selects for a point with its status, if there is one.
-#[derive(Drop)]
+#[derive(Clone, Copy)]
 pub enum Selection {
     None,
     Selected(VersionRow),
 }
 
 // A version that was asked for: where it stands in the version table, and its record.
-#[derive(Drop)]
+#[derive(Clone, Copy)]
 pub enum Held {
     Absent,
     Has { at: u64, record: VersionRecord },
 }
 
 // What becomes of the two tables: both are made anew, one record of one of them is put, or the versions are settled in a run.
-#[derive(Drop)]
+#[derive(Clone, Copy)]
 pub enum Tables {
     Same,
     Fresh,
@@ -153,7 +155,7 @@ pub enum Tables {
 }
 
 // What becomes of the tables, and all else of the desk after the call.
-#[derive(Drop)]
+#[derive(Clone, Copy)]
 pub struct Effect {
     pub tables: Tables,
     pub frame: Frame,

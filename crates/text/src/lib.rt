@@ -1,3 +1,5 @@
 // Text in a buffer: numbers, figures, and the lines of the desk program.
+#![tactic(auto)]
+
 pub mod field;
 pub mod line;

@@ -1,4 +1,6 @@
 // For tests only: the two walks over the versions, on a table of numbers that may hold anything.
+#![tactic(auto)]
+
 ghost use Rattle.std.specs.Prelude.{◌≡◌, cond, ◌+◌, ◌≤◌, length};
 ghost use Rattle.walks.specs.Walk.{record_from, Made, is_held, held_at, selected_at, numbers_of, walks_in, Walks};
 

@@ -1,4 +1,6 @@
 // Working days of the years 2020 to 2059, by the rule alone: months and dates, Easter, days off, and their count.
+#![tactic(auto)]
+
 pub mod count;
 pub mod dates;
 pub mod easter;
@@ -6,13 +8,13 @@ pub mod generator;
 pub mod rule;
 
 // A month of a year, 1 to 12.
-#[derive(Drop)]
+#[derive(Clone, Copy)]
 pub struct Month {
     pub year: u64,
     pub month: u64,
 }
 
-#[derive(Drop)]
+#[derive(Clone, Copy)]
 pub struct Date {
     pub year: u64,
     pub month: u64,

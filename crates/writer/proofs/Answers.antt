@@ -13,7 +13,7 @@ use Rattle.quantity.specs.Lists.{all}
 use Rattle.quantity.specs.Word.{signed}
 use Rattle.quantity.proofs.Lists.{all-in}
 use Rattle.quantity.proofs.Tests.{and-left, and-right}
-use Rattle.message.specs.Call.{Sent, submission, fields_of, is_kind, print, tail_small, small}
+use Rattle.message.specs.Call.{Sent, fields_of, is_kind, print, tail_small, small}
 use Rattle.message.specs.Energy.{fits_energy}
 use Rattle.message.specs.Laws.{series, nothing}
 use Rattle.message.specs.Number.{fits_number}

@@ -1,4 +1,6 @@
 // The writer: one call to the start of a lent output. The size is known before the first byte is written.
+#![tactic(auto)]
+
 pub mod fields;
 
 ghost use Rattle.std.specs.Prelude.{◌≡◌, true, map, ◌+◌, ◌<◌, ◌≤◌, ◌^◌, length, take};
@@ -16,14 +18,14 @@ use message::{FileCause, call, energy};
 use quantity::{WattHours, limits};
 
 // How many bytes numbers take, where a file can carry them.
-#[derive(Drop)]
+#[derive(Clone, Copy)]
 pub enum Sized {
     Bytes(usize),
     TooLarge,
 }
 
 // How many bytes were written, or why nothing was, with the offset 0.
-#[derive(Drop)]
+#[derive(Clone, Copy)]
 pub enum Written {
     Length(usize),
     Refused { cause: FileCause, offset: usize },

@@ -1,0 +1,22 @@
+-- `change_row` meets its contract. Assumes nothing.
+use mathlib.Core.Path.{refl, ◌∙◌}
+use Prim.Native.Nat.{◌-◌, ◌<◌}
+use lib.ListN.{length}
+use Rattle.book.specs.Row.{changed}
+use Rattle.book.proofs.Rows.{up_to-none, up_to-more, up_to-all}
+use borrow.Author.Rules.{rules}
+use Rattle.book.proofs.row.change_row.Goals as goal
+
+pub loop-i-init : goal.loop-i-init
+loop-i-init c = (refl, up_to-none (changed _) _ _)
+
+pub loop-i-preserved : goal.loop-i-preserved
+loop-i-preserved c =
+    let l = c.loop-i in
+    let a = c.args in
+    let h : l.i < length a.row.now = search rules in
+    let k : l.i < length a.series.now = search rules in
+    (search rules, up_to-more (changed a.way) l.i a.row.now a.series.now 0 h k l.invariant.1 c.change-figure.ensures)
+
+pub returns : goal.returns
+returns c = c.loop-i.invariant.1 ∙ up_to-all (changed _) _ _ _ (search rules)

@@ -1,0 +1,12 @@
+-- `pass_inside` meets its contract: as many numbers as were passed, each of nine bytes at most. Assumes nothing.
+use Prim.Native.Nat.{ℕ, ◌+◌, ◌-◌, ◌*◌, ◌≤◌}
+use mathlib.Core.List.{List}
+use lib.ListN.{length}
+use Rattle.message.proofs.Passing.{Passing}
+use Rattle.message.proofs.pass.pass_inside.Given as goal
+
+abbrev pub invariant-loop-i : goal.invariant-loop-i
+invariant-loop-i l = (vs : List ℕ) × Passing l.file l.at l.n l.j l.i vs × (l.j + 16 * (l.n - l.i) ≤ length l.file)
+
+abbrev pub decreases-loop-i : goal.decreases-loop-i
+decreases-loop-i l = l.n - l.i

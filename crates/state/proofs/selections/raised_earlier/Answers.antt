@@ -1,0 +1,12 @@
+-- `raised_earlier` meets its contract, case by case. Assumes nothing.
+use borrow.Author.Tests.{le-leb, lt-leb}
+use Rattle.state.proofs.selections.raised_earlier.Goals as goal
+
+pub returns-in-None : goal.returns-in-None
+returns-in-None c = rw c.in-None.is
+
+pub returns-then-top-r : goal.returns-then-top-r
+returns-then-top-r c = rw (c.in-Selected.is, le-leb _ _ c.if-top-r.true)
+
+pub returns-else-top-r : goal.returns-else-top-r
+returns-else-top-r c = rw (c.in-Selected.is, lt-leb _ _ c.if-top-r.false)
