@@ -19,21 +19,21 @@ from-in : (c : After-row_start-from) → c.row_start-from.result + c.args.q ≤ 
 from-in c =
     let a = c.args in
     let k = c.requires in
-    omega (arith, c.row_start-from.ensures, row-within a.q a.run (64 + a.area) k.0.low k.0.high (omega arith), k.0.whole)
+    omega (arith, c.row_start-from.ensures, row-within a.q a.run (64 + a.area) k.book_in.low k.book_in.high (omega arith), k.book_in.whole)
 
 out-in : (c : After-row_start-out) → c.row_start-out.result + c.args.q ≤ length c.args.book.now
 out-in c =
     let a = c.args in
     let k = c.requires in
-    omega (arith, c.row_start-out.ensures, row-within a.q a.run c.group_row.result k.0.low k.0.high (omega (arith, c.group_row.ensures)), k.0.whole)
+    omega (arith, c.row_start-out.ensures, row-within a.q a.run c.group_row.result k.book_in.low k.book_in.high (omega (arith, c.group_row.ensures)), k.book_in.whole)
 
 to-in : (c : After-row_start-to) → c.row_start-to.result + c.args.q ≤ length c.args.book.now
 to-in c =
     let a = c.args in
     let k = c.requires in
-    omega (arith, c.row_start-to.ensures, row-within a.q a.run c.group_row-2.result k.0.low k.0.high (omega (arith, c.group_row-2.ensures)), k.0.whole)
+    omega (arith, c.row_start-to.ensures, row-within a.q a.run c.group_row-2.result k.book_in.low k.book_in.high (omega (arith, c.group_row-2.ensures)), k.book_in.whole)
 
-copied : (c : After-copy_row) → length c.copy_row.new.1.1.1.0 ≡ 2980
+copied : (c : After-copy_row) → length c.copy_row.new.row ≡ 2980
 copied c = search rules
 
 pub copy_row-requires : goal.copy_row-requires
@@ -63,7 +63,7 @@ returns c =
       sym (post-copied Out book book rest c.row_start-out.result a.q from fits),
       sym row,
       sym c.post.ensures,
-      sym (post-copied In c.post.new.1.0 book rest c.row_start-to.result a.q from fits),
+      sym (post-copied In c.post.new.book book rest c.row_start-to.result a.q from fits),
       sym row,
     )
     c.post-2.ensures

@@ -10,7 +10,7 @@ pub amend_sides-requires : goal.amend_sides-requires
 amend_sides-requires c =
     let s = c in
     let long : length s.args.groups ≡ 17 = search rules in
-    record { book_in = (s.requires.book_in, rw c.sides_of-sides.ensures (sides-in s.args.groups long s.requires.groups_value.0.0 s.args.here s.requires.groups_value.0.1)); series_in = s.requires.groups_value.1 }
+    record { book_in = (s.requires.book_in, rw c.sides_of-sides.ensures (sides-in s.args.groups long s.requires.groups_value.0 s.args.here s.requires.groups_value.1)); series_in = s.requires.series_in }
 
 pub returns-then-differs : goal.returns-then-differs
 unfolding amend_run

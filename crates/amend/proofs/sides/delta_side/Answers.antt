@@ -9,5 +9,5 @@ use Rattle.amend.proofs.sides.delta_side.Goals as goal
 pub returns : goal.returns
 returns c =
     let a = c.args in
-    let long : length a.t1 ≡ 17 = search (rules, length-of) in
-    rw (get_or-eq_default a.t1 0 {n = a.area} (omega arith))
+    let long : length a.groups ≡ 17 = search (rules, length-of) in
+    rw (get_or-eq_default a.groups 0 {n = a.area} (omega arith))
