@@ -11,7 +11,6 @@ use lib.Seq.{take_all, length-take-le, get_or-take}
 use Rattle.quantity.proofs.Tests.{and-left, and-right}
 use Rattle.state.specs.Selection.{best, version_of, Highest}
 use Rattle.state.specs.Version.{empty_version, record_at, is_at, is_version, held, HeldIn}
-use Rattle.state.specs.declared.Held.{Held}
 use Rattle.state.specs.declared.Held.TheVariants.{Absent, Has}
 use Rattle.state.specs.declared.Selection.{Selection}
 use Rattle.state.specs.declared.Selection.TheVariants.{None, Selected}

@@ -1,0 +1,12 @@
+-- `survey` meets its contract. The loop's invariant: what was found is what the records read have. Assumes nothing.
+use Prim.Native.Nat.{◌≤◌, ◌-◌}
+use mathlib.Core.Path.{◌≡◌}
+use lib.ListN.{length, take}
+use Rattle.checks.specs.Survey.{reading, Surveyed}
+use Rattle.checks.proofs.surveys.survey.Given as goal
+
+abbrev pub invariant-loop-read : goal.invariant-loop-read
+invariant-loop-read l = (l.read ≤ l.n) × (l.n ≤ 512) × (length l.versions ≡ 512) × (take l.n l.versions ≡ take l.count l.versions) × Surveyed l.point.0 l.version.0 (take l.read l.versions) (reading l.read l.s)
+
+abbrev pub decreases-loop-read : goal.decreases-loop-read
+decreases-loop-read l = l.n - l.read
