@@ -13,6 +13,8 @@ use lib.ListN.{length, take, drop, length-append, take-append-drop}
 use lib.Seq.{length-take-le, take-length, take_at, drop_at, drop-append-le, drop-append-add, drop-drop}
 use mir.Syntax.{w64}
 use mir.Facts.{to_z_pos, to_z-neg}
+use borrow.Rule.Slice.PartMut.{put_mid}
+use Rattle.std.proofs.lemmas.Slice.{drop-put_mid}
 use Rattle.io.specs.Digits.{last_digits, hex_digit_ascii, IsDigitCount}
 use Rattle.quantity.specs.Word.{signed}
 use Rattle.text.specs.Line.{answer_line}
@@ -109,6 +111,18 @@ behind-copied l s part at k n h long room e =
     ∙ sym (drop-append-le k (take n d) (drop n d) room)
     ∙ ap (drop k) (take-append-drop n d)
     ∙ drop-drop k at l
+
+-- a text written over as many bytes of a slice is put there
+pub put-slice : (l part s : List ℕ) (at k : ℕ) → at + k ≤ length l → length s ≡ k → part ≡ s → Put k at s l (put_mid at ((at + k) - at) l part) (at + k)
+put-slice l part s at k h long e =
+    let size : (at + k) - at ≡ k = omega arith in
+    let none : s ++ [] ≡ take (length s) s ++ [] = ap (λ (x : List ℕ). x ++ []) (sym (take-length s)) in
+    record {
+      holds = copied l s part [] (drop ((at + k) - at) (drop at l)) at k (omega arith) long (e ∙ sym (append-nil s) ∙ none);
+      rest = rw (size, e) (drop-put_mid at k l s (at + k) (omega arith) (omega arith) long);
+      from = omega arith;
+      few = omega arith;
+    }
 
 -- what is the same from a place on is the same from a later one on
 pub drop-later : (l m : List ℕ) (a b : ℕ) → a ≤ b → drop a l ≡ drop a m → drop b l ≡ drop b m

@@ -23,7 +23,7 @@ pub fn put_number(out: &mut [u8], at: usize, n: u64) -> usize
 {
     let mut digits = [0u8; 20];
     let k = io::decimal(n, &mut digits);
-    bytes::copy(&digits[..k], &mut out[at..]);
+    out[at..at + k].copy_from_slice(&digits[..k]);
     at + k
 }
 
