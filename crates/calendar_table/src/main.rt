@@ -5,9 +5,12 @@ ghost use Rattle.std.specs.Prelude.{◌+◌, ◌≤◌, length};
 ghost use Rattle.text.specs.Text.{Put};
 ghost use Rattle.calendar_table.specs.Table.{line_of, table_text};
 
-use libc::{STDERR_FILENO, STDOUT_FILENO};
 use text::field;
 use workdays::dates::MONTHS;
+
+const STDOUT: i32 = 1;
+
+const STDERR: i32 = 2;
 
 // An entry has at most 20 digits and a line end.
 const MOST: usize = 21 * MONTHS;
@@ -39,15 +42,12 @@ fn run(out: &mut [u8]) -> bool
     requires { 10080 ≤ length out.old }
 {
     let n = put_table(out);
-    io::write_all(STDOUT_FILENO, &out[..n])
+    io::write_all(STDOUT, &out[..n])
 }
 
 fn main() {
     let mut out = [0u8; MOST];
     if !run(&mut out) {
-        io::write_all(
-            STDERR_FILENO,
-            b"calendar_table: the table cannot be written\n",
-        );
+        io::write_all(STDERR, b"calendar_table: the table cannot be written\n");
     }
 }

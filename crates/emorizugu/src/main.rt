@@ -1,22 +1,27 @@
 // The desk program: a message file from standard input through the desk; answers and figures to standard output.
 #![tactic(auto)]
 
-use libc::{STDERR_FILENO, STDIN_FILENO, STDOUT_FILENO};
 use output::Filled;
+
+const STDIN: i32 = 0;
+
+const STDOUT: i32 = 1;
+
+const STDERR: i32 = 2;
 
 // Whether the output got out.
 fn run(input: &[u8], out: &mut [u8]) -> bool {
     let Filled::Length(n) = output::fill(input, out) else {
         return false;
     };
-    io::write_all(STDOUT_FILENO, &out[..n])
+    io::write_all(STDOUT, &out[..n])
 }
 
 fn main() {
     let mut input = io::large_buffer();
-    let n = io::read_full(STDIN_FILENO, &mut input);
+    let n = io::read_full(STDIN, &mut input);
     let mut out = [0u8; output::MOST];
     if !run(&input[..n], &mut out) {
-        io::write_all(STDERR_FILENO, b"emorizugu: the output cannot be written\n");
+        io::write_all(STDERR, b"emorizugu: the output cannot be written\n");
     }
 }
