@@ -39,9 +39,6 @@ overflow_add-at c = let g = c.requires in omega (arith, g.more)
 pub put_version-requires : goal.put_version-requires
 put_version-requires c = c.requires.more
 
-pub MISSING-same-length : goal.MISSING-same-length
-MISSING-same-length c = kept c
-
 pub returns : goal.returns
 returns c =
     let a = c.args in
