@@ -3,13 +3,10 @@ use Prim.Native.Nat.{ℕ, suc, ◌+◌, ◌-◌, ◌<◌, ◌≤◌}
 use mathlib.Core.Path.{◌≡◌, refl, sym, ap, ◌∙◌}
 use mathlib.Core.Bool.{cond}
 use mathlib.Core.List.{List, [], ◌∷◌, map}
-use mathlib.Core.Logic.{⊎_elim}
 use native.Mathlib.Decide.{ℕ_discrete}
 use native.Mathlib.Numerals.{add-one}
 use native.Mathlib.Omega.{arith}
 use borrow.Author.Tests.{eq-eqb, ne_eqb, le-leb}
-use denote.Enum.Declared.{tag_of}
-use types.Run.{OneOf}
 use lib.Dec.{eqb, leb-suc-suc, leb-suc-zero}
 use lib.ListN.{length, take, drop, set, length-append, length-drop, length-map, drop_of_length-le}
 use lib.Seq.{take-nil}
@@ -31,7 +28,6 @@ use Rattle.message.specs.Series.{filled}
 use Rattle.reader.specs.Reader.{padded, read_at, series_after}
 use Rattle.reader.specs.declared.Step.{Step}
 use Rattle.reader.specs.declared.Step.TheVariants.{Call as CallRead, End as FileEnd, Refused as NotRead}
-use Rattle.reader.specs.contracts.Step.{the_type as step-type}
 use Rattle.reader.proofs.Theorems.{Stepped, reader-end, reader-call, reader-refused, end-keeps, reader-keeps}
 use Rattle.dispatch.specs.Asked.{asked}
 use Rattle.replay.specs.Given.{given_in}
@@ -181,10 +177,10 @@ module _ {s : List ℕ} {start p : Playing} {at : ℕ} (w : Going s start p at) 
           rw (ne_eqb at (length s) n) (done (rw none) (rw none (sym (bytes-left (length s) (length start.series) (drop at s) some))))
 
   -- no call is read
-  pub unread : (t : Step) {series : List ℕ} → p.answered < length start.answers → OneOf (1 ∷ 2 ∷ []) (tag_of step-type t) → (read_at s at (length p.series)).step ≡ t →
+  pub unread : (t : Step) {series : List ℕ} → p.answered < length start.answers → ((d : DeskCall) (n m : ℕ) → t ≡ CallRead d n m → ⊥) → (read_at s at (length p.series)).step ≡ t →
       series ≡ series_after s at p.series → Ran s start (record { running = p.running; series = series; answers = p.answers; answered = p.answered }) (ended_by t)
   unfolding given_in
-  unread (CallRead d n m) h o e f = absurd (⊎_elim (λ (x : 0 ≡ 1). omega arith) (λ (x : 0 ≡ 2). omega arith) o)
+  unread (CallRead d n m) h o e f = absurd (o d n m refl)
   unread FileEnd h o e f = rw (f ∙ end-keeps s at p.series e) (at-end (reader-end s at (length p.series) e))
   unread (NotRead x i) h o e f =
       let g = reader-refused s at (length p.series) w.inside e in

@@ -1,18 +1,18 @@
 -- A call as the reader gives it, its energies as words, is the call of the file. Assumes nothing.
-use Prim.Native.Nat.{ℕ, zero, suc, ◌-◌, ◌^◌, ◌≤◌}
-use mathlib.Core.Path.{◌≡◌, refl, ap, ◌∙◌}
+use Prim.Native.Nat.{ℕ, ◌-◌, ◌^◌, ◌≤◌}
+use mathlib.Core.Path.{◌≡◌, refl, ◌∙◌}
 use mathlib.Core.Bool.{true}
-use mathlib.Core.List.{List, [], ◌∷◌, ◌++◌, map, append-nil}
+use mathlib.Core.List.{List, [], ◌∷◌, map}
 use native.Mathlib.Omega.{arith}
 use borrow.Author.Tests.{ltb-true}
 use lib.Dec.{leb}
 use lib.IntN.{ℤ, pos, negsuc}
-use lib.ListN.{length, get_or, take, drop, replicate, length-map}
+use lib.ListN.{length, take, drop, length-map}
 use lib.Seq.{take_at}
 use Rattle.quantity.specs.Limits.{most_quarters}
 use Rattle.quantity.specs.Lists.{all}
 use Rattle.quantity.specs.Word.{word, signed}
-use Rattle.quantity.proofs.Tests.{and-left, and-right, within-low, within-high}
+use Rattle.quantity.proofs.Tests.{and-left, and-right}
 use Rattle.quantity.proofs.Words.{signed-word, small-fits}
 use Rattle.message.specs.Call.{Sent, Carried}
 use Rattle.message.specs.Energy.{fits_energy}

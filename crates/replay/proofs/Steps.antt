@@ -1,6 +1,6 @@
 -- One call of a replay keeps the invariant: refused it changes nothing, accepted it opens the desk or goes on with it. Assumes nothing.
 use Prim.Native.Nat.{ℕ}
-use mathlib.Core.Path.{◌≡◌, refl, ◌∙◌, subst}
+use mathlib.Core.Path.{◌≡◌, refl, sym, ◌∙◌, subst}
 use mathlib.Core.Bool.{Bool, true, false}
 use mathlib.Core.List.{List, [], ◌∷◌}
 use lib.IntN.{ℤ}
@@ -61,7 +61,9 @@ module _ (s : Stores) (r : Running) (h : List Told) (c : Call) where
   accepted-kept : refusal_by r.desk (told (lent_to r c)) ≡ Fine → refusal (view_in h) (told (lent_to r c)) ≡ Fine → (q : ℕ) → quarters_for r c ≡ q
       → Opened s (back (granting r.desk (lent_by q r.stores) c) q r.stores) (telling (lengths_of (lent_by q r.stores)) c ∷ h) → Kept
   unfolding handed lent_to step decided plain_next joined
-  accepted-kept e f q z O = rw (e, f, z) (opened O)
+  accepted-kept e f q z O =
+      let O' = subst (λ (n : ℕ). Opened s (back (granting r.desk (lent_by n r.stores) c) n r.stores) (telling (lengths_of (lent_by n r.stores)) c ∷ h)) (sym z) O in
+      rw (e, f) (opened O')
 
 -- ---- after the opening
 

@@ -1,0 +1,21 @@
+-- `drive_replace_row_twice` meets its contract. Assumes nothing.
+use mathlib.Core.Path.{sym}
+use borrow.Author.Tests.{eq-eqb, ne_eqb}
+use Rattle.book.specs.Row.{changed}
+use Rattle.test_drive.specs.Rows.{added, replaced}
+use Rattle.test_drive.proofs.row.drive_replace_row_twice.Goals as goal
+
+pub returns-then-new-row : goal.returns-then-new-row
+unfolding added replaced changed
+returns-then-new-row c =
+    let t = c in
+    rw (eq-eqb _ _ t.if-old-row.true, eq-eqb _ _ t.if-new-row.true, sym c.change_row.ensures)
+    c.change_row-then-new-row.ensures
+
+pub returns-else-new-row : goal.returns-else-new-row
+unfolding added replaced changed
+returns-else-new-row c = rw (eq-eqb _ _ c.if-old-row.true, ne_eqb _ _ c.if-new-row.false)
+
+pub returns-else-old-row : goal.returns-else-old-row
+unfolding added replaced changed
+returns-else-old-row c = rw (ne_eqb _ _ c.if-old-row.false)
