@@ -2,7 +2,7 @@
 ghost use Rattle.checks.specs.Stepped.{stores_of};
 ghost use Rattle.entry.specs.Entered.{by_apply, Meets};
 
-use dispatch::decisions::answer as core;
+use dispatch::decisions::answer as by_value;
 use message::DeskCall;
 use model::Answer;
 use quantity::limits::DELTAS;
@@ -22,7 +22,7 @@ pub fn apply(
 ) -> Answer
     ensures { Meets d.old (by_apply call groups series.now (stores_of values.old book.old log.old schedules.old) result d.new (stores_of values.new book.new log.new schedules.new)) }
 {
-    let out = core(*d, call, groups, series, values, book, log, schedules);
+    let out = by_value(*d, call, groups, series, values, book, log, schedules);
     *d = out.desk;
     out.answer
 }

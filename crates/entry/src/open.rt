@@ -2,7 +2,7 @@
 ghost use Rattle.checks.specs.Stepped.{stores_of};
 ghost use Rattle.entry.specs.Entered.{by_open, Meets};
 
-use calls::open::open as core;
+use calls::open::open as by_value;
 use model::Answer;
 use quantity::Day;
 use quantity::limits::DELTAS;
@@ -23,7 +23,7 @@ pub fn open(
 ) -> Answer
     ensures { Meets d.old (by_open quarters first clearing correction groups (stores_of values.now book.old log.now schedules.old) result d.new book.new schedules.new) }
 {
-    let out = core(
+    let out = by_value(
         *d, quarters, first, clearing, correction, groups, values, book, log, schedules,
     );
     *d = out.desk;
