@@ -1,8 +1,8 @@
 /*
  * emorizugu.h: the settlement desk's entries for a host program in C.
  *
- * Link libemorizugu.a, which `./install PREFIX` puts in place with this header (before that, `rt staticlib host` writes it
- * to target/staticlib/libhost.a). The header is C99, and C++ may include it.
+ * Link libemorizugu.a, which `./install PREFIX` puts in place with this header (before that, `rt lib` in crates/host writes
+ * it to crates/host/out/libhost.a). The header is C99, and C++ may include it.
  *
  * What a host may rely on, for every function here:
  * - Any numbers and any bytes get an answer; there is no input for which a call is undefined or does not return.

@@ -1,22 +1,20 @@
 #!/usr/bin/env bash
 # Tests of a fresh clone, on machines on which one thing or another is missing. What needs no program is said at once, and what is missing is named, before
 # anything is built: the commands that build are stand-ins here, which only note that they were called.
-# Writes under target/ only. Builds ./desk and ./run first where they are missing or old.
+# Writes to a folder of its own outside the repository, which is removed at the end. Builds ./desk and ./run first where they are missing or old.
 set -u
 cd "$(dirname "$0")/.." || exit 2
-work=$PWD/target/tests/fresh
 . tests/shared.sh
+. tools/layout.sh
+work_outside fresh
 clone=$work/clone
 bin=$work/bin
 built=$work/built
 
+# A copy without what was made here.
 make_clone() {
-    local entry
-    rm -rf "$work"
     mkdir -p "$clone" || exit 2
-    for entry in .ci *; do
-        [ "$entry" = target ] || cp -R "$entry" "$clone" || return 1
-    done
+    tar -c --exclude=./.git --exclude=./target --exclude='./crates/*/out' . | tar -x -C "$clone"
 }
 
 # machine COMMAND..: a PATH with what every Linux has, and with stand-ins for these commands.
@@ -215,12 +213,12 @@ END
     builds 'a cargo that does not run' 'cargo does not run: error: no toolchain is set'
     machine
     builds 'nothing' "$RT" "$CARGO" "$CC"
-    machine rt cargo gcc g++ python3 script
+    machine rt cargo gcc g++ python3
     at_once 'test: no node' 1 ./test <<END
 missing: node (runs the script of the page that ./desk writes). Debian: apt-get install nodejs
 0 passed, 1 failed
 END
-    machine cargo gcc g++ python3 node script
+    machine cargo gcc g++ python3 node
     at_once 'test: no Rattle' 1 ./test <<END
 $RT
 0 passed, 1 failed
@@ -229,11 +227,13 @@ END
 
 # Programs that are older than their sources run as they were built.
 old_programs() {
+    local emorizugu
+    emorizugu=$(program_of emorizugu)
     machine
-    mkdir -p "$clone/target/bin" "$clone/target/desk/release"
-    cp target/bin/emorizugu "$clone/target/bin"
+    mkdir -p "$clone/${emorizugu%/*}" "$clone/target/desk/release"
+    cp "$emorizugu" "$clone/$emorizugu"
     cp target/desk/release/desk "$clone/target/desk/release"
-    touch -d '2001-01-01' "$clone/target/bin/emorizugu" "$clone/target/desk/release/desk"
+    touch -d '2001-01-01' "$clone/$emorizugu" "$clone/target/desk/release/desk"
     at_once 'desk: no toolchain, and a program that is old' 0 ./desk --version <<END
 $(./desk --version)
 ! desk: runs as it was built: its sources are newer, and there is no toolchain on the PATH
@@ -257,7 +257,6 @@ F 33 29
 END
 }
 
-mkdir -p "$work" || exit 2
 # What building says is no part of a test.
 if ./desk causes >/dev/null 2>"$work/log" && ./run examples/empty.msg >>"$work/log" 2>&1 && make_clone; then
     desk_at_once

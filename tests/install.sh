@@ -1,14 +1,15 @@
 #!/usr/bin/env bash
 # Tests of ./install and of what it puts in place: desk, emorizugu, man pages, documents; the hosts of the examples over it, in C, C++ and Python; entries
 # with NULL, and on a small stack.
-# Writes under target/ only.
+# Writes to a folder of its own outside the repository, which is removed at the end, and under target/.
 # Most functions here are called by `holds`.
 # shellcheck disable=SC2317
 set -u
 cd "$(dirname "$0")/.." || exit 2
-work=$PWD/target/tests/install
 . tests/shared.sh
+work_outside install
 
+here=$PWD
 prefix=$work/prefix
 sums='0 refused, ending 0
 group 1: 18000 Wh
@@ -168,8 +169,8 @@ readable() {
 
 # A prefix that is no whole path, below DESTDIR.
 below() {
-    (cd "$work" && DESTDIR=below ../../../install a/prefix && "./below$work/a/prefix/bin/desk" --version &&
-        grep -qx "prefix=$work/a/prefix" "below$work/a/prefix/lib/pkgconfig/emorizugu.pc" && DESTDIR=below ../../../install --remove a/prefix) &&
+    (cd "$work" && DESTDIR=below "$here/install" a/prefix && "./below$work/a/prefix/bin/desk" --version &&
+        grep -qx "prefix=$work/a/prefix" "below$work/a/prefix/lib/pkgconfig/emorizugu.pc" && DESTDIR=below "$here/install" --remove a/prefix) &&
         [ ! -e "$work/below" ] && [ ! -e "$work/a" ]
 }
 
@@ -215,8 +216,6 @@ documents() {
     (cd "$prefix/share/doc/emorizugu" && "$prefix/bin/desk" run examples/july.calls) | grep -q '^23 calls, none refused'
 }
 
-rm -rf "$work"
-mkdir -p "$work" || exit 2
 holds 'install' ./install "$prefix"
 holds 'the program in place' sh -c "'$prefix/bin/desk' run examples/month.calls | grep -q '^13 calls, none refused'"
 holds 'the man page in place' grep -q '^.TH DESK 1' "$prefix/share/man/man1/desk.1"

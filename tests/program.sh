@@ -1,10 +1,10 @@
 #!/usr/bin/env bash
 # Tests of the desk program by ./run, and of ./run itself.
-# Writes under target/ only. Builds the program first where it is missing or old.
+# Writes to a folder of its own outside the repository, which is removed at the end. Builds the program first where it is missing or old.
 set -u
 cd "$(dirname "$0")/.." || exit 2
-work=$PWD/target/tests/program
 . tests/shared.sh
+work_outside program
 
 # pack NAME: the text on standard input, as the message file NAME.
 pack() {
@@ -592,7 +592,6 @@ F 33 29
 END
 }
 
-mkdir -p "$work" || exit 2
 # The first run builds the program; what that says is no part of a test.
 if ./run examples/empty.msg >"$work/log" 2>&1; then
     pass 'the program is built'

@@ -1,7 +1,16 @@
-# What the test scripts share. A script that takes this in stands in the repository's folder and has set `work`, the folder that it writes to.
+# What the test scripts share. A script that takes this in stands in the repository's folder, and has set `work`, the folder that it writes to, or
+# sets it by `work_outside`.
 # Each test prints a line; `finish` prints, as the very last line, 'N passed, M failed', and ends with 0 where M is 0.
 passed=0
 failed=0
+
+# work_outside NAME: sets `work` to a new folder outside the repository, which is removed at the end. `rt ci` reads all that lies in the repository, target/ too, and
+# refuses a link there, and a .rt or .antt file that is no crate's: what makes some writes here.
+work_outside() {
+    work=$(mktemp -d "${TMPDIR:-/tmp}/emorizugu-$1-XXXXXX") || exit 2
+    trap 'rm -rf "$work"' EXIT
+    trap 'exit 130' INT TERM HUP
+}
 
 pass() {
     passed=$((passed + 1))

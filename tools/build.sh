@@ -4,6 +4,7 @@
 : "${here:?}"
 
 . "$here/tools/shared.sh" || exit 2
+. "$here/tools/layout.sh" || exit 2
 
 # The version of the library's entries.
 library_version() {
@@ -46,12 +47,19 @@ need() {
     [ -z "$lost" ] || exit 2
 }
 
-# older FILE SOURCE..: whether the file is missing, or a source is newer. What a build leaves is in target/.
+# older FILE SOURCE..: whether the file is missing, or a source is newer. What a build leaves is in target/, and in each crate's out/; making that changes
+# the crate's own folder, so what counts of crates/ are the files and folders in its crates.
 older() {
-    local file=$1
+    local file=$1 source least found
     shift
     [ ! -e "$file" ] && return 0
-    [ -n "$(find "$@" -newer "$file" -print -quit)" ]
+    for source in "$@"; do
+        least=0
+        [ "$source" != "$here/crates" ] || least=2
+        found=$(find "$source" -mindepth "$least" -name out -prune -o -newer "$file" -print -quit)
+        [ -z "$found" ] || return 0
+    done
+    return 1
 }
 
 # The mark of a proof that ended well, by what was proved.
@@ -94,36 +102,32 @@ build() {
     ended "$what" $? "$log" "$@"
 }
 
-# How many crates a crate stands on, itself among them.
+# The crates that a crate stands on, and itself, in the order in which `rt` proves them.
 crates_of() { # crate
     awk -F: -v crate="$1" '
-        function visit(n,    a, k) {
+        function visit(n,    a, i, k) {
             if (n in seen || !(n in deps)) return
             seen[n]
-            count++
-            split(deps[n], a, " ")
-            for (k in a) visit(a[k])
+            k = split(deps[n], a, " ")
+            for (i = 1; i <= k; i++) visit(a[i])
+            print n
         }
         { sub(/#.*/, "") }
-        NF > 1 { deps[$1] = $2 }
-        END { visit(crate); print count }' "$here/crates.txt"
+        NF > 1 { split($1, words, " "); deps[words[1]] = $2 }
+        END { visit(crate) }' "$here/crates.txt"
 }
 
-# The crates that are being proved: begun since a time, and not yet in the log.
-under_way() { # time, log
-    local file crate
-    find "$here/target/log" -name '*.out' -newermt "@$1" 2>/dev/null | sort | while IFS= read -r file; do
-        crate=$(basename "$file" .out)
-        grep -q "^rt: $crate " "$2" || printf ' %s' "$crate"
-    done
-}
-
-# Says each second how far a proof is, until it ends: on a terminal one line that is renewed, else a line where there is something new.
-follow() { # process, time it began, log, how many crates
-    local shown='' now crates
+# Says each second how far a proof is, until it ends: on a terminal one line that is renewed, else a line where there is something new. `rt` names a crate when
+# it begins with it, and passes over those that an earlier run has proved.
+follow() { # process, log, crate
+    local shown='' now crates at most
+    crates=$(crates_of "$3")
+    most=$(printf '%s\n' "$crates" | wc -l)
     while sleep 1 && kill -0 "$1" 2>/dev/null; do
-        crates=$(under_way "$2" "$3")
-        now="$(grep -c '^rt: .* proved (' "$3") of $4 crates proved${crates:+, at work on$crates}"
+        at=$(sed -n 's/^rt: chose --jobs [0-9]* for \([a-z_0-9]*\)$/\1/p' "$2" | tail -n 1)
+        now=$(printf '%s\n' "$crates" | awk -v at="$at" -v most="$most" '
+            $0 == at { before = NR - 1 }
+            END { printf "%d of %d crates proved%s", before, most, at == "" ? "" : ", at work on " at }')
         if [ -t 2 ]; then
             printf '\r%s: %s; %d s\033[K' "$name" "$now" "$SECONDS" >&2
         elif [ "$now" != "$shown" ]; then
@@ -140,25 +144,37 @@ break_off() {
     exit 130
 }
 
-# prove WHAT CRATE VERB: `rt VERB CRATE`, with its progress. Crates that do not depend on each other are proved side by side.
+# prove WHAT CRATE VERB: `rt VERB` in the crate's folder, with its progress. What it stands on is proved first, as far as no earlier run has. A program that is
+# built by `rt run` is run once, on nothing.
 prove() {
-    local what=$1 crate=$2 log=$here/target/$2.log mark began process status
+    local what=$1 crate=$2 log=$here/target/$2.log mark process status
     mark=$(mark_of "$2")
     mkdir -p "$here/target" || exit 2
     rm -f "$mark"
-    began=$(date +%s.%N)
     SECONDS=0
     # In a process group of its own, so that all of it ends with this script.
     set -m
-    (cd "$here" && exec rt "$3" "$crate") >"$log" 2>&1 </dev/null &
+    (cd "$here/crates/$crate" && exec rt "$3") >"$log" 2>&1 </dev/null &
     process=$!
     set +m
     # shellcheck disable=SC2064
     trap "kill -TERM -- -$process 2>/dev/null; break_off" INT TERM HUP
-    follow "$process" "$began" "$log" "$(crates_of "$crate")"
+    follow "$process" "$log" "$crate"
     wait "$process"
     status=$?
     trap - INT TERM HUP
-    ended "$what" "$status" "$log" rt "$3" "$crate"
+    ended "$what" "$status" "$log" rt "$3" "(in crates/$crate)"
     touch "$mark"
+}
+
+# The proved library, where it is missing or older than its sources; what else is needed to go on is named with what is missing.
+make_library() { # command that is needed too..
+    if unproved "$here/$(archive_of host)" host; then
+        need rt "$@"
+        compare_toolchain
+        say 'building the library; what it stands on is proved first, which takes some minutes'
+        prove 'the library' host lib
+    else
+        need "$@"
+    fi
 }
