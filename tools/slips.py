@@ -13,9 +13,9 @@
 
 Each slip is one that a person could make: see the functions of the section "kinds". Definition and code that slip together are judged by the laws alone:
 with --laws the code is left out, so that it cannot disagree. The same sources, seed and options give the same slips. It
-works on a copy of the crate and of those beneath it, in a temporary folder that is removed at the end; the repository stays as it is. What stands in
-target/ is copied too, so that what lies beneath is not proved again where it is proved. A slip is tried by `rt dev` over what has not changed since; one
-that is still proved is tried once more from nothing.
+works on a copy of the crate and of those beneath it, in a temporary folder that is removed at the end; the repository stays as it is. What lies beneath
+is not proved again where `rt check` has proved it on this machine. A slip is tried by `rt check` over what has not changed since; one that is still proved
+is tried once more from nothing, by `rt verdict`.
 
 For each slip one line says where it is, its kind and what was changed, and one what became of it:
 
@@ -46,6 +46,8 @@ from queue import Empty, Queue
 ROOT = Path(__file__).resolve().parent.parent
 OPERATORS = {'&&', '||', '∷', '++', '+', '*', '-', '/', '%', '^', '+ℤ', '-ℤ', '≡', '→', '×', '⊎', '<', '≤', '=', ':', ';', ',', '∙'}
 KEYWORDS = {'λ', 'let', 'in', 'record', 'where', 'rw', 'absurd'}
+# where a specification has the library's words from
+PRELUDE = 'Rattle.std.specs.Prelude'
 # functions of the library: the types of their arguments, and of what they give
 LIBRARY = {'leb': (['ℕ', 'ℕ'], 'Bool'), 'ltb': (['ℕ', 'ℕ'], 'Bool'), 'eqb': (['ℕ', 'ℕ'], 'Bool')}
 
@@ -66,9 +68,9 @@ class Word:
 
 
 def words_in(text, start, end):
-    """The words from start to end, each with its depth in brackets; comments are passed over."""
+    """The words from start to end, each with its depth in brackets; comments are passed over. A field, as `.day` of `d.frame.day`, is a word of its own."""
     words, depth = [], 0
-    for m in re.finditer(r'--[^\n]*|[(){};,]|[^\s(){};,]+', text[start:end]):
+    for m in re.finditer(r'--[^\n]*|[(){};,]|(?:\.?[^\s(){};,.]+|\.+)(?=\.[^\s(){};,.])|[^\s(){};,]+', text[start:end]):
         word = m.group()
         if word.startswith('--'):
             continue
@@ -90,12 +92,13 @@ def is_operand(word):
 
 
 def atom_end(words, i):
-    """The index behind the argument that begins at i, or None."""
-    if i >= len(words):
+    """The index behind the argument that begins at i, with the fields that are taken of it, or None."""
+    if i >= len(words) or not (words[i].text == '(' or is_operand(words[i].text)):
         return None
-    if words[i].text == '(':
-        return closing(words, i) + 1
-    return i + 1 if is_operand(words[i].text) else None
+    end = closing(words, i) + 1 if words[i].text == '(' else i + 1
+    while end < len(words) and words[end].text[0] == '.' and words[end].start == words[end - 1].end:
+        end += 1
+    return end
 
 
 @dataclass
@@ -258,7 +261,7 @@ def read_types(crate):
 
 def beneath(crate):
     """The crates of the repository that a crate stands on, and itself, lowest first."""
-    lines = dict(re.findall(r'^(\w+):(.*)$', (ROOT / 'crates.txt').read_text(), re.M))
+    lines = dict(re.findall(r'^(\w+)[^:#\n]*:(.*)$', (ROOT / 'crates.txt').read_text(), re.M))
     if crate not in lines:
         refuse(f'crates.txt lists no {crate}')
     found = []
@@ -278,7 +281,7 @@ class Sources:
     """What a file's names are, from all the files that it may name."""
 
     def __init__(self, crate):
-        self.crate = crate
+        self.crate, self.crates = crate, beneath(crate)
         self.files, self.structs, self.enums = {}, {}, {}
         for c in beneath(crate):
             for p in sorted((ROOT / 'crates' / c / 'specs').glob('*.antt')):
@@ -296,16 +299,16 @@ class Sources:
         for t, cs in f.data.items():
             makers.update({c: (t, *signature(s)) for c, s in cs})
         for module, listed, start, end in f.uses:
-            path = module.replace('·specs', '').split('.')
+            path = module.split('.')
             for entry in listed:
                 imports[entry.split(' as ')[-1]] = (module, entry)
-            if not module.startswith('Rattle·'):
+            if path[0] != 'Rattle' or path[1] not in self.crates:
                 for n in listed:
                     if n in LIBRARY:
                         names[n] = LIBRARY[n]
                 continue
-            crate = path[0].removeprefix('Rattle·')
-            if 'the-variants' in path:
+            crate = path[1]
+            if 'TheVariants' in path:
                 variants = self.enums.get((crate, path[-2]), [])
                 makers.update({v: (path[-2], carried, path[-2]) for v, carried in variants if v in listed})
                 continue
@@ -408,12 +411,11 @@ class Kinds:
     def of_order(self):
         """< for ≤, or ≤ for <, or ≤ for ="""
         other = {'leb': 'ltb', 'ltb': 'leb', 'eqb': 'leb', '<': '≤', '≤': '<'}
-        module = {'leb': 'lib.Dec', 'ltb': 'lib.Dec', '<': 'Prim.Native.Nat', '≤': 'Prim.Native.Nat'}
         for c in self.f.clauses:
             for w in c.right:
                 if w.text in other:
                     new = other[w.text]
-                    brought = self.bring(f'_{new}_' if new in '<≤' else new, module[new])
+                    brought = self.bring(f'◌{new}◌' if new in '<≤' else new, PRELUDE)
                     if brought is not None:
                         yield [(w.start, w.end, new), *brought]
 
@@ -423,7 +425,7 @@ class Kinds:
             for w in c.right:
                 if w.text in ('true', 'false'):
                     new = 'false' if w.text == 'true' else 'true'
-                    brought = self.bring(new, 'mathlib.Core.Bool')
+                    brought = self.bring(new, PRELUDE)
                     if brought is not None:
                         yield [(w.start, w.end, new), *brought]
 
@@ -433,13 +435,13 @@ class Kinds:
             for w in c.right:
                 if w.text in ('&&', '||'):
                     new = '||' if w.text == '&&' else '&&'
-                    brought = self.bring(f'_{new}_', 'mathlib.Core.Bool')
+                    brought = self.bring(f'◌{new}◌', PRELUDE)
                     if brought is not None:
                         yield [(w.start, w.end, new), *brought]
 
     def of_condition(self):
         """a condition negated"""
-        negation = self.bring('not', 'mathlib.Core.Bool')
+        negation = self.bring('not', PRELUDE)
         for c in self.f.clauses:
             for u in uses_in(c.right):
                 if u.head.text == 'not' and len(u.args) == 1:
@@ -453,12 +455,12 @@ class Kinds:
 
     def of_operator(self):
         """plus for minus or times, or the other way round"""
-        other = {'+ℤ': ('-ℤ', 'lib.IntN'), '-ℤ': ('+ℤ', 'lib.IntN'), '+': ('*', 'Prim.Native.Nat'), '*': ('+', 'Prim.Native.Nat'), '-': ('+', 'Prim.Native.Nat')}
+        other = {'+ℤ': '-ℤ', '-ℤ': '+ℤ', '+': '*', '*': '+', '-': '+'}
         for c in self.f.clauses:
             for w in c.right:
                 if w.text in other:
-                    new, module = other[w.text]
-                    brought = self.bring(f'_{new}_', module)
+                    new = other[w.text]
+                    brought = self.bring(f'◌{new}◌', PRELUDE)
                     if brought is not None:
                         yield [(w.start, w.end, new), *brought]
 
@@ -560,7 +562,7 @@ class Kinds:
 
     def of_silence(self):
         """a line of a table that never holds"""
-        brought = self.bring('false', 'mathlib.Core.Bool')
+        brought = self.bring('false', PRELUDE)
         for c in self.f.clauses:
             for u in self.lines_of_table(c):
                 if brought is not None:
@@ -584,7 +586,12 @@ class Kinds:
                 types[u.args[-1][1]] = self.names[u.head.text][1]
             elif not u.args:
                 types[u.head.end] = known.get(u.head.text) or self.names.get(u.head.text, ((), ''))[1]
+        for w in c.right:
+            if known.get(w.text):
+                types.setdefault(w.end, known[w.text])
         for before, w in zip(c.right, c.right[1:]):
+            if w.text == ')' and before.end in types:
+                types[w.end] = types[before.end]
             if not w.text.startswith('.'):
                 continue
             record = self.sources.typed.get(types.get(before.end))
@@ -604,7 +611,7 @@ class Kinds:
                     continue
                 for fields in [owners[w.start]] if w.start in owners else [r for r in self.sources.typed.values() if name in r]:
                     for n, t in fields.items():
-                        if n != name and t == fields[name]:
+                        if n != name and t == fields.get(name):
                             yield [(w.start, w.end, '.' + n)]
 
     def of_record(self):
@@ -684,48 +691,48 @@ def slips_of(sources, only, without):
 # ---- pairs: the same slip in what both desks have of one thing
 
 # the running desk's and the plain desk's table of what a call makes; their clauses go together by the call
-TWINS = [('Step', 'granting'), ('Plain', 'granted'), ('Plain', 'setsBy'), ('Plain', 'setIn')]
+TWINS = [('Step', 'granting'), ('Plain', 'granted'), ('Plain', 'sets_by'), ('Plain', 'set_in')]
 
 # the call behind a setting of the plain desk
-SETTINGS = {'opened': 'opens', 'placed': 'activates', 'allotted': 'assigns', 'delivered': 'submits', 'judged': 'notices', 'closedIn': 'closes', 'issuedIn': 'issues', 'lodged': 'lodges'}
+SETTINGS = {'opened': 'opens', 'placed': 'activates', 'allotted': 'assigns', 'delivered': 'submits', 'judged': 'notices', 'closed_in': 'closes', 'issued_in': 'issues', 'lodged': 'lodges'}
 
 # what the two desks say in words of their own: what the slip is, and in each file the text and what stands in its place
 PHRASES = [
     ('run 2 books what run 1 selects', [
-        ('Series', 'figureOf', 'selected run p vs', 'selected 1 p vs'), ('Series', 'outsideOf', 'selected run p vs', 'selected 1 p vs'),
-        ('Step', 'amendBy', '(orElse (t .old2) (t .old1)) (orElse (t .new2) (t .new1))', '(t .old1) (t .new1)')]),
+        ('Series', 'figure_of', 'selected run p vs', 'selected 1 p vs'), ('Series', 'outside_of', 'selected run p vs', 'selected 1 p vs'),
+        ('Step', 'amend_by', '(or_else t.old2 t.old1) (or_else t.new2 t.new1)', 't.old1 t.new1')]),
     ('run 2 has nothing without its own', [
-        ('Series', 'figureOf', 'selected run p vs', 'own run p vs'), ('Series', 'outsideOf', 'selected run p vs', 'own run p vs'),
-        ('Step', 'amendBy', '(orElse (t .old2) (t .old1)) (orElse (t .new2) (t .new1))', '(t .old2) (t .new2)')]),
+        ('Series', 'figure_of', 'selected run p vs', 'own run p vs'), ('Series', 'outside_of', 'selected run p vs', 'own run p vs'),
+        ('Step', 'amend_by', '(or_else t.old2 t.old1) (or_else t.new2 t.new1)', 't.old2 t.new2')]),
     ('run 1 books what run 2 selects', [
-        ('Series', 'figureOf', 'selected run p vs', 'selected 2 p vs'), ('Series', 'outsideOf', 'selected run p vs', 'selected 2 p vs'),
-        ('Step', 'amendBy', '(t .old1) (t .new1) values book', '(orElse (t .old2) (t .old1)) (orElse (t .new2) (t .new1)) values book')]),
+        ('Series', 'figure_of', 'selected run p vs', 'selected 2 p vs'), ('Series', 'outside_of', 'selected run p vs', 'selected 2 p vs'),
+        ('Step', 'amend_by', 't.old1 t.new1 values book', '(or_else t.old2 t.old1) (or_else t.new2 t.new1) values book')]),
     ('run 2 is booked under the delta groups of run 1', [
-        ('Series', 'figureOf', 'groupsIn run gs', 'groupsIn 1 gs'), ('Step', 'amendBy', 'sidesOf (groupsIn 2 gs) here', 'sidesOf (groupsIn 1 gs) here')]),
+        ('Series', 'figure_of', 'groups_in run gs', 'groups_in 1 gs'), ('Step', 'amend_by', 'sides_of (groups_in 2 gs) here', 'sides_of (groups_in 1 gs) here')]),
     ('log rows have day 0', [
-        ('Plain', 'withVersions', 'due (w .versions) ws p (w .day)', 'due (w .versions) ws p 0'), ('Step', 'followed', 'due (versionsIn d) ws p day', 'due (versionsIn d) ws p 0')]),
+        ('Plain', 'with_versions', 'due w.versions ws p w.day', 'due w.versions ws p 0'), ('Step', 'followed', 'due (versions_in d) ws p day', 'due (versions_in d) ws p 0')]),
     ('a close frees point 1', [
-        ('Plain', 'setsBy', 'closedIn r ∷ []', 'closedIn r ∷ placed 1 freePoint ∷ []'),
-        ('Step', 'granting', 'accept (deskWith (deskWith d (theClosed', 'accept (deskWith (deskWith (deskWith d (thePoints (withPoint (d .points) 1 freePoint))) (theClosed')]),
+        ('Plain', 'sets_by', 'closed_in r ∷ []', 'closed_in r ∷ placed 1 free_point ∷ []'),
+        ('Step', 'granting', 'accept (desk_with (desk_with d (the_closed', 'accept (desk_with (desk_with (desk_with d (the_points (with_point d.points 1 free_point))) (the_closed')]),
     ('a close is not kept', [
-        ('Plain', 'setsBy', 'closedIn r ∷ []', '[]'), ('Step', 'granting', '(deskWith d (theClosed (flagged r (d .frame .closed))))', 'd')]),
+        ('Plain', 'sets_by', 'closed_in r ∷ []', '[]'), ('Step', 'granting', '(desk_with d (the_closed (flagged r d.frame.closed)))', 'd')]),
     ('an issue is not kept', [
-        ('Plain', 'setIn', '(w .closed) (flagged r (w .issued))', '(w .closed) (w .issued)'), ('Step', 'granting', '(deskWith (settledDesk d r) (theIssued (flagged r (d .frame .issued))))', '(settledDesk d r)')]),
+        ('Plain', 'set_in', 'w.closed (flagged r w.issued)', 'w.closed w.issued'), ('Step', 'granting', '(desk_with (settled_desk d r) (the_issued (flagged r d.frame.issued)))', '(settled_desk d r)')]),
     ('an issue closes its run too', [
-        ('Plain', 'setIn', '(w .closed) (flagged r (w .issued))', '(flagged r (w .closed)) (flagged r (w .issued))'),
-        ('Step', 'granting', '(theIssued (flagged r (d .frame .issued)))) (theDay day)', '(theIssued (flagged r (d .frame .issued)))) (theClosed (flagged r (d .frame .closed)))')]),
+        ('Plain', 'set_in', 'w.closed (flagged r w.issued)', '(flagged r w.closed) (flagged r w.issued)'),
+        ('Step', 'granting', '(the_issued (flagged r d.frame.issued))) (the_day day)', '(the_issued (flagged r d.frame.issued))) (the_closed (flagged r d.frame.closed))')]),
     ('a deactivated point stays', [
-        ('Plain', 'setsBy', 'placed p freePoint ∷ []', '[]'), ('Step', 'granting', '(deskWith d (thePoints (withPoint (d .points) p freePoint)))', 'd')]),
+        ('Plain', 'sets_by', 'placed p free_point ∷ []', '[]'), ('Step', 'granting', '(desk_with d (the_points (with_point d.points p free_point)))', 'd')]),
     ('a lodging is not kept', [
-        ('Plain', 'setsBy', 'lodged g es ∷ []', '[]'),
-        ('Step', 'granting', '(withSchedules s (splice (s .schedules) (scheduleStart (d .frame .opening .quarters) g) (d .frame .opening .quarters) (map word es)))', 's')]),
+        ('Plain', 'sets_by', 'lodged g es ∷ []', '[]'),
+        ('Step', 'granting', '(with_schedules s (splice s.schedules (schedule_start d.frame.opening.quarters g) d.frame.opening.quarters (map word es)))', 's')]),
     ('an assignment is not kept', [
-        ('Plain', 'setsBy', 'allotted a g ∷ []', '[]'),
-        ('Step', 'granting', '(deskWith (deskWith d (theGroups (withGroup both a g (d .frame .groups)))) (theDay day))', '(deskWith d (theDay day))'),
-        ('Step', 'granting', '(withBook s (moved both (d .frame .opening .quarters) a g (d .frame .groups) (s .book)))', 's')]),
+        ('Plain', 'sets_by', 'allotted a g ∷ []', '[]'),
+        ('Step', 'granting', '(desk_with (desk_with d (the_groups (with_group both a g d.frame.groups))) (the_day day))', '(desk_with d (the_day day))'),
+        ('Step', 'granting', '(with_book s (moved both d.frame.opening.quarters a g d.frame.groups s.book))', 's')]),
     ('surplus and shortfall exchanged', [
-        ('Plain', 'granted', 'surplus = monthly h (surplusAt h r g); shortfall = monthly h (shortfallAt h r g)', 'surplus = monthly h (shortfallAt h r g); shortfall = monthly h (surplusAt h r g)'),
-        ('Step', 'granting', 'surplus = monthSurplus', 'surplus = monthShortfall'), ('Step', 'granting', 'shortfall = monthShortfall', 'shortfall = monthSurplus')]),
+        ('Plain', 'granted', 'surplus = monthly h (surplus_at h r g); shortfall = monthly h (shortfall_at h r g)', 'surplus = monthly h (shortfall_at h r g); shortfall = monthly h (surplus_at h r g)'),
+        ('Step', 'granting', 'surplus = month_surplus', 'surplus = month_shortfall'), ('Step', 'granting', 'shortfall = month_shortfall', 'shortfall = month_surplus')]),
 ]
 
 
@@ -845,15 +852,11 @@ class Place:
                     shutil.copytree(ROOT / 'crates' / c / part, self.folder / 'crates' / c / part)
             if laws and self.crate in beneath(c):
                 self.leave_laws(self.folder / 'crates' / c)
-            if c == self.judge:
-                continue
-            for kind, name in (('rlib', f'{c}.rlib'), ('stamp', c)):
-                built = ROOT / 'target' / kind / name
-                if built.is_dir():
-                    shutil.copytree(built, self.folder / 'target' / kind / name)
-                elif built.is_file():
-                    (self.folder / 'target' / kind).mkdir(parents=True, exist_ok=True)
-                    shutil.copy(built, self.folder / 'target' / kind)
+        # The top of a repository: `rt` looks no higher for the crates' list, which wants each crate's src/.
+        (self.folder / '.git').mkdir()
+        for p in (ROOT / 'crates').iterdir():
+            if (p / 'src').is_dir() and not (self.folder / 'crates' / p.name).exists():
+                (self.folder / 'crates' / p.name / 'src').mkdir(parents=True)
 
     def leave_laws(self, folder):
         """Takes the functions and their proofs out of a crate."""
@@ -863,14 +866,14 @@ class Place:
             if p.is_dir():
                 shutil.rmtree(p)
 
-    def check(self, most):
-        """What `rt dev` says, and its exit status: None where it took longer than `most` seconds."""
+    def check(self, most, verb='check'):
+        """What `rt` says in the folder of the crate whose laws judge, and its exit status: None where it took longer than `most` seconds."""
         with open(self.folder / 'said', 'w') as said:
             with self.lock:
                 if self.closed:
                     raise InterruptedError
-                self.process = subprocess.Popen(['rt', 'dev', self.judge], cwd=self.folder, stdout=said, stderr=subprocess.STDOUT,
-                                                env=os.environ | {'RT_CUT': '0'}, start_new_session=True)
+                self.process = subprocess.Popen(['rt', verb], cwd=self.folder / 'crates' / self.judge, stdin=subprocess.DEVNULL, stdout=said, stderr=subprocess.STDOUT,
+                                                start_new_session=True)
             try:
                 status = self.process.wait(most)
             except subprocess.TimeoutExpired:
@@ -889,24 +892,28 @@ class Place:
             self.closed = True
             self.stop()
 
+    def made(self):
+        """What checks leave, of the crate and of those between it and the one whose laws judge: pairs of a folder and where it is kept."""
+        return [(self.folder / 'crates' / c / 'out', self.folder / 'kept' / c) for c in beneath(self.judge) if self.crate in beneath(c)]
+
     def keep(self):
         """Keeps what the check of the crate as it stands left, so that each slip begins with it."""
-        shutil.copytree(self.folder / 'target' / 'inc', self.folder / 'target' / 'kept')
+        for out, kept in self.made():
+            shutil.copytree(out, kept)
 
-    def begin(self, kept):
-        shutil.rmtree(self.folder / 'target' / 'inc', ignore_errors=True)
-        if kept:
-            shutil.copytree(self.folder / 'target' / 'kept', self.folder / 'target' / 'inc')
+    def begin(self):
+        for out, kept in self.made():
+            shutil.rmtree(out, ignore_errors=True)
+            shutil.copytree(kept, out)
 
     def try_slip(self, slip, most):
         specs = self.folder / 'crates' / self.crate / 'specs'
         for part in slip.parts:
             (specs / part.file.path.name).write_text(part.after())
-        self.begin(True)
+        self.begin()
         status, said = self.check(most)
         if status == 0:
-            self.begin(False)
-            status, said = self.check(most)
+            status, said = self.check(most, 'verdict')
         for part in slip.parts:
             (specs / part.file.path.name).write_text(part.file.text)
         return self.verdict(status, said)
@@ -917,8 +924,15 @@ class Place:
             return 'no verdict', 'longer than the time allowed', []
         if status == 0 and 'logic=proved' in said:
             return 'PROVED', '', []
-        errors = [(Path(m.group(1)), int(m.group(2))) for m in re.finditer(r'^(\S+?):(\d+):\d+: error(.*)$', said, re.M) if 'was not admitted' not in m.group(3)]
-        errors = errors or [(Path(m.group(1)), int(m.group(2))) for m in re.finditer(r'^(?:note: )?(/\S+?):(\d+):\d+:', said, re.M)]
+        errors, notes, of = [], [], self.judge
+        for line in said.split('\n'):
+            # `rt` names a crate when it begins with it; the paths that follow are below that crate's folder
+            if m := re.match(r'rt: chose --jobs \d+ for (\w+)$', line):
+                of = m.group(1)
+            elif (m := re.match(r'(note: )?(\S+?):(\d+):\d+:(.*)', line)) and not re.search(r'was not (admitted|checked)', line):
+                found = self.folder / 'crates' / of / m.group(2), int(m.group(3))
+                (notes if m.group(1) or not m.group(4).startswith(' error') else errors).append(found)
+        errors = errors or notes
         if status != 1 or not errors:
             return 'no verdict', cut(said.strip().split('\n')[-1]) if said.strip() else f'exit {status}', []
         path, line = errors[0]
@@ -939,7 +953,7 @@ class Place:
 
     def name_at(self, path, line):
         """The law, lemma or function that a line of a proof belongs to."""
-        if path.name == 'Proof.antt' or path.suffix == '.rt' or not path.is_file():
+        if path.name in ('Proof.antt', 'Answers.antt', 'Invariants.antt') or path.suffix == '.rt' or not path.is_file():
             return path.parent.name
         for l in reversed(path.read_text().split('\n')[:line]):
             m = re.match(r' {0,2}(?:(?:abbrev|unfoldable|pub) )*([^\s:(]+) :(?: |$)', l)
