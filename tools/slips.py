@@ -49,7 +49,7 @@ KEYWORDS = {'λ', 'let', 'in', 'record', 'where', 'rw', 'absurd'}
 # where a specification has the library's words from
 PRELUDE = 'Rattle.std.specs.Prelude'
 # functions of the library: the types of their arguments, and of what they give
-LIBRARY = {'leb': (['ℕ', 'ℕ'], 'Bool'), 'ltb': (['ℕ', 'ℕ'], 'Bool'), 'eqb': (['ℕ', 'ℕ'], 'Bool')}
+LIBRARY = {n: (['ℕ', 'ℕ'], 'Bool') for n in ('leb', 'ltb', 'eqb', 'nat_le', 'nat_lt', 'nat_eq')}
 
 
 def refuse(word):
@@ -410,7 +410,7 @@ class Kinds:
 
     def of_order(self):
         """< for ≤, or ≤ for <, or ≤ for ="""
-        other = {'leb': 'ltb', 'ltb': 'leb', 'eqb': 'leb', '<': '≤', '≤': '<'}
+        other = {'leb': 'ltb', 'ltb': 'leb', 'eqb': 'leb', 'nat_le': 'nat_lt', 'nat_lt': 'nat_le', 'nat_eq': 'nat_le', '<': '≤', '≤': '<'}
         for c in self.f.clauses:
             for w in c.right:
                 if w.text in other:
@@ -504,7 +504,7 @@ class Kinds:
                 types = self.names[u.head.text][0] if u.head.text in self.names else self.makers[u.head.text][1] if u.head.text in self.makers else []
                 for i in range(min(len(u.args), len(types))):
                     for j in range(i):
-                        if types[i] == types[j] and not (u.head.text == 'eqb'):
+                        if types[i] == types[j] and u.head.text not in ('eqb', 'nat_eq'):
                             yield self.exchange(u.args[j], u.args[i])
                 if u.head.text == 'set' and len(u.args) == 3 and not any(self.part(a).startswith('(') for a in u.args[1:]):
                     yield self.exchange(u.args[1], u.args[2])
