@@ -132,9 +132,9 @@ enum { EMORIZUGU_ISSUE_RUN, EMORIZUGU_ISSUE_DAY, EMORIZUGU_ISSUE_FIELDS };
 
 /*
  * The stack that a call needs, in bytes, with room to spare. A replay needs most, the same for every file: it was measured to
- * use 58,040 bytes, from the frame that calls it down to the lowest byte that it writes, and 60,152 where the loader binds
- * memcpy in that very call; the tests hold it below the half of this. Every other entry uses less than 4,096. What is lent
- * is not in these, and need not be on the stack: struct emorizugu_lent alone has 35,296 bytes.
+ * use 60,576 bytes, from the frame that calls it down to the lowest byte that it writes; the tests hold it below the half of
+ * this. Every other entry uses less than 4,096. What is lent is not in these, and need not be on the stack:
+ * struct emorizugu_lent alone has 35,296 bytes.
  */
 #define EMORIZUGU_STACK 131072
 

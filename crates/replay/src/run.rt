@@ -1,5 +1,9 @@
 // The calls of a file on a fresh desk, one after the other.
-ghost use Rattle.std.specs.Prelude.{◌≡◌, cond, eqb};
+ghost use Rattle.std.specs.Prelude.{◌≡◌, ◌≤◌, cond, eqb, take};
+ghost use Rattle.quantity.specs.Limits.{versions as most_versions};
+ghost use Rattle.state.specs.Change.{settle};
+ghost use Rattle.state.specs.Settling.{PointsIn};
+ghost use Rattle.state.specs.Walk.{map_first};
 ghost use Rattle.checks.specs.Stepped.{stores_of};
 ghost use Rattle.replay.specs.Play.{starting};
 ghost use Rattle.replay.specs.Run.{playing_of, ended_by, Ran};
@@ -9,10 +13,11 @@ use crate::lending::lend_call;
 use crate::{Ending, Replayed};
 use checks::numbers::number_of;
 use dispatch::asks::place_in;
+use quantity::limits::VERSIONS;
 use reader::{Step, read_call};
-use state::Tables;
 use state::fresh::fresh_desk;
 use state::settling::settled_versions;
+use state::{Tables, VersionRecord};
 
 // How a file ends where no call is read.
 fn ended_by(step: Step) -> Ending
@@ -38,6 +43,16 @@ fn ended_at(at: usize, length: usize) -> Ending
     } else {
         Ending::Full
     }
+}
+
+// The versions held are settled for a run. On its own: the copy that settling takes then has no room of its own on the stack of `run_file`.
+fn settle_held(versions: &mut [VersionRecord; VERSIONS as usize], count: u64, run: u64)
+    requires count_le_most_versions { count ≤ most_versions }
+    requires points_in { PointsIn (take count versions.old) }
+    ensures { versions.new ≡ map_first count (settle run (take count versions.old)) versions.old }
+{
+    let held = *versions;
+    *versions = settled_versions(held, count, run);
 }
 
 // The effect is carried out as `state::effects::changed` does, here on the desk that is held: a desk that is handed on and given back is copied. An
@@ -87,8 +102,7 @@ pub fn run_file(
                 desk.versions[at as usize] = record;
             }
             Tables::Settled { run } => {
-                let versions = desk.versions;
-                desk.versions = settled_versions(versions, desk.frame.count, run);
+                settle_held(&mut desk.versions, desk.frame.count, run);
             }
         }
         desk.frame = frame;

@@ -78,8 +78,8 @@ offset_bounds-desk-at-in-Version c = let h = version-place (goal.at.offset_bound
 pub bounds-desk-at-in-Version : goal.bounds-desk-at-in-Version
 bounds-desk-at-in-Version c = version-place (goal.at.bounds-desk-at-in-Version c).In-Version
 
-pub settled_versions-desk-requires : goal.settled_versions-desk-requires
-settled_versions-desk-requires c =
+pub settle_held-requires : goal.settle_held-requires
+settle_held-requires c =
     let d = c.loop-answered.desk in
     let v = sound d (rw c.in-Settled.is at c.lend_call-out.ensures.0) in
     record { count_le_most_versions = v.count; points_in = points-in d v }
@@ -99,7 +99,7 @@ loop-answered-preserved c =
           rw (w.desk-is, w.in-Fresh.is) (ap (λ (x : Desk). x.points) f, ap (λ (x : Desk). x.versions) f)
       | in-Point w ↦ rw (w.desk-is, w.in-Point.is) (refl, refl)
       | in-Version w ↦ rw (w.desk-is, w.in-Version.is) (refl, refl)
-      | in-Settled w ↦ rw (w.desk-is, w.settled_versions-desk.ensures, w.in-Settled.is) (refl, refl)
+      | in-Settled w ↦ rw (w.desk-is, w.settle_held.ensures, w.in-Settled.is) (refl, refl)
     ] in
     again g (omega (arith, c.loop-answered-test.true, g.sized.answers)) (step-read read.ensures.0 ∙ c.in-Call.is) (groups-read read.ensures.0) read.ensures.1 (handed-as (applied d c.match-tables.desk e tables) handed.ensures.1) c.number_of.ensures
     (record {
