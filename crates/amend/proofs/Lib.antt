@@ -1,4 +1,4 @@
-pub mod Filling
+pub mod Copied
 pub mod Logs
 pub mod SidesIn
 pub mod Stored

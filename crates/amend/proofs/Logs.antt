@@ -6,10 +6,10 @@ use native.Mathlib.Omega.{arith}
 use mathlib.Core.Bool.{false}
 use borrow.Author.Tests.{ltb-false}
 use lib.ListN.{length, set}
+use Rattle.std.specs.Prelude.{Option, Some, None}
 use Rattle.book.specs.Row.{splice}
 use Rattle.model.specs.Causes.{log_full}
-use Rattle.model.specs.declared.Due.{Due}
-use Rattle.model.specs.declared.Due.TheVariants.{Nothing, Row}
+use Rattle.model.specs.declared.LogRow.{LogRow}
 use Rattle.amend.specs.Lent.{RoomIn, MoreIn}
 
 module _ {A : Type 0} (a b c d : A) where
@@ -27,11 +27,11 @@ module _ {A : Type 0} (a b c d : A) where
       rw (e1, e2, e3) (ap (λ (m : List A). x ∷ m) (four-stored l i (omega arith)))
 
 -- a row that the log has room for can be counted
-pub room-counted : (n : ℕ) (log : List ℕ) (due : Due) → length log < 2 ^ 64 → RoomIn n log due → MoreIn n due
-room-counted n log Nothing h r = tt
-room-counted n log (Row x) h r = omega arith
+pub room-counted : (n : ℕ) (log : List ℕ) (due : Option LogRow) → length log < 2 ^ 64 → RoomIn n log due → MoreIn n due
+room-counted n log None h r = tt
+room-counted n log (Some x) h r = omega arith
 
 -- a log that is not full has room for the row that is due
-pub room-left : (used opening : ℕ) (log : List ℕ) (x : Due) → length log ≡ opening → log_full used opening x ≡ false → RoomIn used log x
-room-left used opening log Nothing h e = tt
-room-left used opening log (Row r) h e = omega (arith, ltb-false opening (4 * (used + 1)) e)
+pub room-left : (used opening : ℕ) (log : List ℕ) (x : Option LogRow) → length log ≡ opening → log_full used opening x ≡ false → RoomIn used log x
+room-left used opening log None h e = tt
+room-left used opening log (Some r) h e = omega (arith, ltb-false opening (4 * (used + 1)) e)

@@ -11,7 +11,7 @@ use Rattle.quantity.specs.Limits.{version_ok, point_ok}
 use Rattle.quantity.specs.Lists.{all}
 use Rattle.quantity.proofs.Lists.{all-in}
 use Rattle.quantity.proofs.Tests.{and-right}
-use Rattle.state.specs.Selection.{is_counted, own, or_else, Highest}
+use Rattle.state.specs.Selection.{is_counted, own, Highest}
 use Rattle.state.specs.Valid.{version_record_ok}
 use Rattle.state.specs.Version.{record_at, empty_version}
 use Rattle.state.specs.declared.Selection.{Selection}
@@ -21,11 +21,6 @@ use Rattle.state.specs.declared.VersionRow.{VersionRow}
 use Rattle.state.proofs.Picks.{own-highest}
 use Rattle.model.specs.Log.{turn_of}
 use Rattle.amend.specs.Lent.{SeriesIn, TurnIn}
-
--- run 2's series, its own or run 1's
-pub else-in : (q : ℕ) (values : List ℕ) (own first : Selection) → SeriesIn q values own → SeriesIn q values first → SeriesIn q values (or_else own first)
-else-in q values None first h k = k
-else-in q values (Selected r) first h k = h
 
 module _ (q n : ℕ) (values : List ℕ) (fits : n * q ≤ length values) where
   -- a version within the limits has its series within the values

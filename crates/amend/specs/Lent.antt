@@ -1,5 +1,5 @@
 -- What is asked of what is lent to be written: rows within the book, series within the values, room in the log; and what follows a change.
-use Rattle.std.specs.Prelude.{◌≡◌, true, List, ℕ, ◌+◌, ◌*◌, ◌^◌, ◌≤◌, ◌<◌, length}
+use Rattle.std.specs.Prelude.{◌≡◌, true, List, ℕ, ◌+◌, ◌*◌, ◌^◌, ◌≤◌, ◌<◌, length, Option, Some, None}
 use Rattle.quantity.specs.Limits.{runs, run_rows, book_rows, most_quarters}
 use Rattle.state.specs.Valid.{state_ok, deltas_ok}
 use Rattle.state.specs.declared.Frame.{Frame}
@@ -8,8 +8,7 @@ use Rattle.state.specs.declared.Selection.{Selection}
 use Rattle.state.specs.declared.Selection.TheVariants.{None, Selected}
 use Rattle.model.specs.Log.{logged, used_after}
 use Rattle.model.specs.Step.{amend_by}
-use Rattle.model.specs.declared.Due.{Due}
-use Rattle.model.specs.declared.Due.TheVariants.{Nothing, Row}
+use Rattle.model.specs.declared.LogRow.{LogRow}
 use Rattle.model.specs.declared.Side.{Side}
 use Rattle.model.specs.declared.Side.TheVariants.{Outside, Group, Delta}
 use Rattle.model.specs.declared.Sides.{Sides}
@@ -46,14 +45,14 @@ pub record TurnIn (q : ℕ) (values : List ℕ) (t : Turn) : Type 0 where
   pub new2 : SeriesIn q values t.new2
 
 -- four numbers for a row that is due
-abbrev pub RoomIn : (used : ℕ) (log : List ℕ) → Due → Type 0
-RoomIn n log Nothing = Unit {0}
-RoomIn n log (Row r) = 4 * n + 4 ≤ length log
+abbrev pub RoomIn : (used : ℕ) (log : List ℕ) → Option LogRow → Type 0
+RoomIn n log None = Unit {0}
+RoomIn n log (Some r) = 4 * n + 4 ≤ length log
 
 -- one row more can be counted
-abbrev pub MoreIn : (used : ℕ) → Due → Type 0
-MoreIn n Nothing = Unit {0}
-MoreIn n (Row r) = n + 1 < 2 ^ 64
+abbrev pub MoreIn : (used : ℕ) → Option LogRow → Type 0
+MoreIn n None = Unit {0}
+MoreIn n (Some r) = n + 1 < 2 ^ 64
 
 -- a change of a point's versions, and the stores that are to follow
 pub record Changed (f : Frame) (here : PointState) (values book : List ℕ) (t : Turn) : Type 0 where
@@ -64,7 +63,7 @@ pub record Changed (f : Frame) (here : PointState) (values book : List ℕ) (t :
   pub turn : TurnIn f.opening.quarters values t
 
 -- the book, the log and its rows in use after the change
-pub record Followed (f : Frame) (here : PointState) (t : Turn) (due : Due) (values book log : List ℕ) (r : ℕ) (book' log' : List ℕ) : Type 0 where
+pub record Followed (f : Frame) (here : PointState) (t : Turn) (due : Option LogRow) (values book log : List ℕ) (r : ℕ) (book' log' : List ℕ) : Type 0 where
   pub booked : book' ≡ amend_by f.opening.quarters f.groups here t values book
   pub noted : log' ≡ logged f.used due log
   pub counted : r ≡ used_after due f.used

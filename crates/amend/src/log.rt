@@ -4,7 +4,7 @@ ghost use Rattle.model.specs.Log.{log_row, due_by, logged, used_after};
 ghost use Rattle.amend.specs.Lent.{RoomIn, MoreIn};
 
 use crate::rows::differs;
-use model::{Due, LogRow, Turn};
+use model::{LogRow, Turn};
 use quantity::{Day, PointNo};
 use state::Selection;
 use state::selections::version_of;
@@ -12,47 +12,42 @@ use state::selections::version_of;
 pub fn log_row(day: Day, point: PointNo, run: u64, s: Selection) -> LogRow
     ensures { result ≡ log_row day.0 point.0 run s }
 {
-    let version = version_of(s);
     LogRow {
         day,
         point,
         run,
-        version,
+        version: version_of(s),
     }
 }
 
-pub fn due_by(t: Turn, point: PointNo, day: Day) -> Due
+pub fn due_by(t: Turn, point: PointNo, day: Day) -> Option<LogRow>
     ensures { result ≡ due_by t point.0 day.0 }
 {
-    let old1 = t.old1;
-    let new1 = t.new1;
-    let old2 = t.old2;
-    let new2 = t.new2;
-    if differs(old1, new1) {
-        return Due::Row(log_row(day, point, 1, new1));
+    if differs(t.old1, t.new1) {
+        return Some(log_row(day, point, 1, t.new1));
     }
-    if differs(old2, new2) {
-        return Due::Row(log_row(day, point, 2, new2));
+    if differs(t.old2, t.new2) {
+        return Some(log_row(day, point, 2, t.new2));
     }
-    Due::Nothing
+    None
 }
 
-pub fn used_after(due: Due, used: u64) -> u64
+pub fn used_after(due: Option<LogRow>, used: u64) -> u64
     requires { MoreIn used due }
     ensures { result ≡ used_after due used }
 {
-    let Due::Row(_) = due else {
+    let Some(_) = due else {
         return used;
     };
     used + 1
 }
 
 // Four numbers to a row.
-pub fn put_row(log: &mut [u64], used: usize, due: Due)
+pub fn put_row(log: &mut [u64], used: usize, due: Option<LogRow>)
     requires { RoomIn used log.old due }
     ensures { log.new ≡ logged used due log.old }
 {
-    let Due::Row(r) = due else {
+    let Some(r) = due else {
         return;
     };
     let at = 4 * used;

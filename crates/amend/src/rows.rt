@@ -1,5 +1,5 @@
 // The rows of the book that a change of a selection touches: each is lent on to be written, the others stay.
-ghost use Rattle.std.specs.Prelude.{◌≡◌, ◌+◌, ◌*◌, ◌^◌, ◌≤◌, ◌<◌, length};
+ghost use Rattle.std.specs.Prelude.{◌≡◌, ◌+◌, ◌*◌, ◌^◌, ◌<◌, ◌≤◌, length};
 ghost use Rattle.quantity.specs.Limits.{run_rows};
 ghost use Rattle.book.specs.declared.Way.TheVariants.{In, Out};
 ghost use Rattle.model.specs.Log.{differ};
@@ -9,7 +9,6 @@ ghost use Rattle.amend.specs.Lent.{SeriesIn, BookIn, SideIn, SidesIn};
 use book::Way;
 use book::place::row_start;
 use book::posting::{post, repost};
-use book::row::opposite;
 use model::{Side, Sides};
 use state::{Selection, VersionRow};
 
@@ -18,11 +17,11 @@ fn place(r: VersionRow, q: usize) -> usize
     requires { r.row.0 * q < 2 ^ 64 }
     ensures { result ≡ r.row.0 * q }
 {
-    let row = r.row;
-    row.0 as usize * q
+    r.row.0 as usize * q
 }
 
 // A selected version's series posted to the row at a start; where there is none, the row stays.
+#[tactic(auto, unfolding(model::specs::Step::post_from))]
 fn post_from(way: Way, book: &mut [u64], start: usize, q: usize, values: &[u64], s: Selection)
     requires q_in_bounds { start + q ≤ length book.old }
     requires series_in { SeriesIn q values.now s }
@@ -35,6 +34,7 @@ fn post_from(way: Way, book: &mut [u64], start: usize, q: usize, values: &[u64],
 }
 
 // Row k of a run: the old series is taken back, and the new one posted; in one pass where there are both.
+#[tactic(auto, unfolding(model::specs::Step::post_from, model::specs::Step::amend_row))]
 fn amend_row(
     way: Way,
     run: usize,
@@ -55,13 +55,14 @@ fn amend_row(
         return;
     };
     let Selection::Selected(to) = new else {
-        post(opposite(way), book, start, q, values, place(from, q));
+        post(way.opposite(), book, start, q, values, place(from, q));
         return;
     };
     repost(way, book, start, q, values, place(from, q), place(to, q));
 }
 
 // Each row of a side.
+#[tactic(auto, unfolding(model::specs::Step::amend_side))]
 fn amend_side(
     way: Way,
     run: usize,
@@ -87,6 +88,7 @@ fn amend_side(
 }
 
 // A series goes into its one side and out of the other.
+#[tactic(auto, unfolding(model::specs::Step::amend_sides))]
 pub fn amend_sides(
     run: usize,
     sides: Sides,
@@ -100,24 +102,20 @@ pub fn amend_sides(
     requires series_in { SeriesIn q values.now old × SeriesIn q values.now new }
     ensures { book.new ≡ amend_sides run q sides old new values.now book.old }
 {
-    let to = sides.to;
-    let from = sides.from;
-    amend_side(Way::In, run, to, q, old, new, values, book);
-    amend_side(Way::Out, run, from, q, old, new, values, book);
+    amend_side(Way::In, run, sides.to, q, old, new, values, book);
+    amend_side(Way::Out, run, sides.from, q, old, new, values, book);
 }
 
-// Another version is selected than before.
+// Another version is selected than before, by its place or its number; a restated status is no change.
+#[tactic(auto, unfolding(model::specs::Log::differ))]
 pub fn differs(a: Selection, b: Selection) -> bool
     ensures { result ≡ differ a b }
 {
-    match a {
-        Selection::None => match b {
-            Selection::None => false,
-            Selection::Selected(_) => true,
-        },
-        Selection::Selected(r) => match b {
-            Selection::None => true,
-            Selection::Selected(s) => !((r.at == s.at) & (r.version.0 == s.version.0)),
-        },
+    match (a, b) {
+        (Selection::None, Selection::None) => false,
+        (Selection::Selected(r), Selection::Selected(s)) => {
+            (r.at != s.at) | (r.version.0 != s.version.0)
+        }
+        _ => true,
     }
 }

@@ -15,6 +15,7 @@ use state::selections::or_else;
 use state::{DeltaGroups, PointState, Selection};
 
 // One run under its delta groups, where its selection changes.
+#[tactic(auto, unfolding(model::specs::Step::amend_run))]
 fn amend_run(
     run: usize,
     groups: [u64; DELTAS as usize],
@@ -31,8 +32,7 @@ fn amend_run(
     ensures { book.new ≡ amend_run run q (sides_of groups here) old new values.now book.old }
 {
     if differs(old, new) {
-        let sides = sides_of(groups, here);
-        amend_sides(run, sides, q, old, new, values, book);
+        amend_sides(run, sides_of(groups, here), q, old, new, values, book);
     }
 }
 
@@ -50,14 +50,8 @@ pub fn amend(
     requires turn_in { TurnIn q values.now t }
     ensures { book.new ≡ amend_by q groups here t values.now book.old }
 {
-    let first = groups.first;
-    let second = groups.second;
-    let old1 = t.old1;
-    let new1 = t.new1;
-    let own_old = t.old2;
-    let own_new = t.new2;
-    let old2 = or_else(own_old, old1);
-    let new2 = or_else(own_new, new1);
-    amend_run(1, first, here, q, old1, new1, values, book);
-    amend_run(2, second, here, q, old2, new2, values, book);
+    amend_run(1, groups.first, here, q, t.old1, t.new1, values, book);
+    let old2 = or_else(t.old2, t.old1);
+    let new2 = or_else(t.new2, t.new1);
+    amend_run(2, groups.second, here, q, old2, new2, values, book);
 }

@@ -11,10 +11,7 @@ use state::PointState;
 pub fn group_row(group: u64) -> u64
     ensures { result ≡ group_row group }
 {
-    if group == 0 {
-        return 0;
-    }
-    group - 1
+    group.saturating_sub(1)
 }
 
 pub fn group_side(group: u64) -> Side
@@ -28,70 +25,47 @@ fn delta_side(groups: [u64; DELTAS as usize], area: u64) -> Side
     requires { area ≤ 255 }
     ensures { result ≡ delta_side groups area }
 {
-    if area < DELTAS {
-        let i = area as usize;
-        let group = groups[i];
-        return Side::Delta {
-            delta: GROUPS + area,
-            group: group_row(group),
-        };
-    }
+    let group = if area < DELTAS {
+        group_row(groups[area as usize])
+    } else {
+        0
+    };
     Side::Delta {
         delta: GROUPS + area,
-        group: 0,
+        group,
     }
 }
 
 // What +v goes to.
+#[tactic(auto, unfolding(model::specs::Series::to_side))]
 fn to_side(groups: [u64; DELTAS as usize], kind: u64, area: u64, partner: u64) -> Side
     requires { area ≤ 255 }
     ensures { result ≡ to_side groups kind area partner }
 {
-    if kind == 1 {
-        return delta_side(groups, area);
+    match kind {
+        1 | 5 => delta_side(groups, area),
+        2 | 4 => group_side(partner),
+        3 => delta_side(groups, 0),
+        _ => Side::Outside,
     }
-    if kind == 2 {
-        return group_side(partner);
-    }
-    if kind == 3 {
-        return delta_side(groups, 0);
-    }
-    if kind == 4 {
-        return group_side(partner);
-    }
-    if kind == 5 {
-        return delta_side(groups, area);
-    }
-    Side::Outside
 }
 
 // What -v goes to. As a partner 0 is the outside, and not T.
+#[tactic(auto, unfolding(model::specs::Series::from_side))]
 fn from_side(groups: [u64; DELTAS as usize], kind: u64, area: u64, partner: u64) -> Side
     requires area_bound { area ≤ 255 }
     requires partner_bound { partner ≤ 255 }
     ensures { result ≡ from_side groups kind area partner }
 {
-    if kind == 1 {
-        if 0 < partner {
-            return delta_side(groups, partner);
-        }
-        return Side::Outside;
+    match kind {
+        1 if 0 < partner => delta_side(groups, partner),
+        2 | 3 => delta_side(groups, area),
+        4 | 5 => delta_side(groups, 0),
+        _ => Side::Outside,
     }
-    if kind == 2 {
-        return delta_side(groups, area);
-    }
-    if kind == 3 {
-        return delta_side(groups, area);
-    }
-    if kind == 4 {
-        return delta_side(groups, 0);
-    }
-    if kind == 5 {
-        return delta_side(groups, 0);
-    }
-    Side::Outside
 }
 
+#[tactic(auto, unfolding(model::specs::Series::sides_of))]
 pub fn sides_of(groups: [u64; DELTAS as usize], s: PointState) -> Sides
     ensures { result ≡ sides_of groups s }
 {
@@ -101,17 +75,18 @@ pub fn sides_of(groups: [u64; DELTAS as usize], s: PointState) -> Sides
             from: Side::Outside,
         },
         PointState::Active {
-            since: _,
             kind,
             area,
             partner,
+            ..
         } => {
             let k = kind.0 as u64;
             let a = area.0 as u64;
             let b = partner.0 as u64;
-            let to = to_side(groups, k, a, b);
-            let from = from_side(groups, k, a, b);
-            Sides { to, from }
+            Sides {
+                to: to_side(groups, k, a, b),
+                from: from_side(groups, k, a, b),
+            }
         }
     }
 }

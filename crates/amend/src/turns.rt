@@ -3,7 +3,7 @@ ghost use Rattle.amend.specs.Lent.{RoomIn, Changed, Followed};
 
 use crate::log::{put_row, used_after};
 use crate::runs::amend;
-use model::{Due, Turn};
+use model::{LogRow, Turn};
 use state::{Frame, PointState};
 
 // By the point's state, and the selections before and after. Gives the log rows in use then.
@@ -11,7 +11,7 @@ pub fn follow(
     f: Frame,
     here: PointState,
     t: Turn,
-    due: Due,
+    due: Option<LogRow>,
     values: &[u64],
     book: &mut [u64],
     log: &mut [u64],
@@ -20,9 +20,7 @@ pub fn follow(
     requires room_in { RoomIn f.used log.old due }
     ensures { Followed f here t due values.now book.old log.old result book.new log.new }
 {
-    let opening = f.opening;
-    let groups = f.groups;
-    amend(groups, here, t, opening.quarters as usize, values, book);
+    amend(f.groups, here, t, f.opening.quarters as usize, values, book);
     put_row(log, f.used as usize, due);
     used_after(due, f.used)
 }

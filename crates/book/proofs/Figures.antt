@@ -10,10 +10,15 @@ use borrow.Author.Tests.{eqb-true}
 use lib.Dec.{eqb}
 use lib.ListN.{length, get_or, take, drop, length-drop, drop_of_length-le}
 use lib.Seq.{drop-cons, get_or-drop, get_or-take, length-take-le}
+use Rattle.std.specs.Prelude.{Result, Ok, Err, IsErr}
+use Rattle.quantity.specs.declared.WattHours.{WattHours}
 use Rattle.quantity.specs.Limits.{within, quarters_ok, run_ok, group_ok, most_quarters, runs, groups, book_rows}
 use Rattle.quantity.proofs.Tests.{and-left, and-right, within-low, within-high}
 use Rattle.book.specs.Place.{group_row, book_row, figure_at}
 use Rattle.book.specs.Bytes.{word_of, figure_ok, figure_refusal}
+use Rattle.book.specs.Refusal.{number_of, figure_of}
+use Rattle.book.specs.declared.refusal.BookRefusal.{BookRefusal}
+use Rattle.book.specs.declared.refusal.BookRefusal.TheVariants.{WrongLength, OutOfRange}
 use Rattle.book.proofs.Places.{row-before}
 
 -- bytes give a number below 256 to the power of their count
@@ -34,7 +39,7 @@ module _ (s : List ℕ) (at : ℕ) (fits : at + 8 ≤ length s) where
   eight : length (take 8 (drop at s)) ≡ 8
   eight = length-take-le 8 (drop at s) (omega (arith, length-drop at s))
 
-  byte-at : (k : ℕ) → k < 8 → get_or (take 8 (drop at s)) k 0 ≡ get_or s (at + k) 0
+  pub byte-at : (k : ℕ) → k < 8 → get_or (take 8 (drop at s)) k 0 ≡ get_or s (at + k) 0
   byte-at k h = get_or-take 8 (drop at s) k 0 h ∙ get_or-drop at s k 0
 
   pub bytes-none : 0 ≡ word_of (drop 8 (take 8 (drop at s)))
@@ -106,3 +111,16 @@ found len q r g n m e z = go (figure_ok q r g n) (eqb len (1296 * q)) refl refl 
     go true true p h z = found-in len q r g n p (eqb-true len (1296 * q) h)
     go true false p h z = absurd (omega arith)
     go false t p h z = absurd (omega arith)
+
+pub accepted : (len q r g n : ℕ) → 0 ≡ figure_refusal len q r g n → Found len q r g n
+accepted len q r g n e = found len q r g n 0 e refl
+
+-- what is refused has no figure
+pub no-figure : (r : Result WattHours BookRefusal) → IsErr r → figure_of r ≡ 0
+no-figure (Ok x) e = cc e
+no-figure (Err r) e = refl
+
+-- and a refusal's number is not 0
+pub refused : (r : BookRefusal) {m : ℕ} → number_of r ≡ m → eqb m 0 ≡ false
+refused WrongLength e = rw (sym e) refl
+refused OutOfRange e = rw (sym e) refl

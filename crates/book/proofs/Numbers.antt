@@ -1,19 +1,20 @@
 -- The figure in a book of bytes by document 01's numbers: which answer is given when, and which eight bytes the figure is. Assumes nothing.
 use Prim.Native.Nat.{ℕ, ◌+◌, ◌-◌, ◌*◌, ◌≤◌, ◌<◌}
-use mathlib.Core.Path.{◌≡◌, refl, ap}
+use mathlib.Core.Path.{◌≡◌, refl, sym, ap, ◌∙◌}
 use mathlib.Core.Bool.{Bool, true, false}
 use mathlib.Core.List.{List}
 use native.Mathlib.Omega.{arith}
 use borrow.Author.Tests.{eq-eqb, ne_eqb}
 use lib.Dec.{leb}
 use lib.ListN.{length, get_or, take, drop}
-use Rattle.quantity.specs.Limits.{within, quarters_ok, run_ok, group_ok}
+use Rattle.std.specs.Int.{w64, from_le_bytes}
+use Rattle.quantity.specs.Limits.{quarters_ok, run_ok, group_ok}
 use Rattle.quantity.specs.Meaning.{Means}
 use Rattle.quantity.proofs.Meanings.{means-le, means-and}
 use Rattle.quantity.proofs.Ranges.{means-quarters, means-run, means-group}
-use Rattle.book.specs.Bytes.{word_of, figure_ok, figure_refusal, figure_in}
+use Rattle.book.specs.Bytes.{word_of, bytes_at, figure_ok, figure_refusal, figure_in}
 use Rattle.book.specs.Laws.{InRange, eight_bytes, Figures}
-use Rattle.book.proofs.Figures.{bytes-none, bytes-more, found}
+use Rattle.book.proofs.Figures.{byte-at, bytes-none, bytes-more, accepted}
 
 -- a test fails where what it says does not hold
 pub out : {P : Type 0} (t : Bool) → Means t P → (P → ⊥) → t ≡ false
@@ -42,6 +43,18 @@ eight-bytes s at fits =
     let first : get_or s (at + 0) 0 ≡ get_or s at 0 = ap (λ (j : ℕ). get_or s j 0) (omega arith) in
     omega (arith, first, bytes-none s at fits, more 8 (omega arith) (omega arith), more 7 (omega arith) (omega arith), more 6 (omega arith) (omega arith), more 5 (omega arith) (omega arith), more 4 (omega arith) (omega arith), more 3 (omega arith) (omega arith), more 2 (omega arith) (omega arith), more 1 (omega arith) (omega arith))
 
+-- a number of eight bytes, the lowest first
+le-sum : (l : List ℕ) → from_le_bytes w64 l
+    ≡ get_or l 0 0 + get_or l 1 0 * 256 + get_or l 2 0 * 65536 + get_or l 3 0 * 16777216 + get_or l 4 0 * 4294967296 + get_or l 5 0 * 1099511627776 + get_or l 6 0 * 281474976710656 + get_or l 7 0 * 72057594037927936
+le-sum l = refl
+
+pub le-bytes : (s : List ℕ) (at : ℕ) → at + 8 ≤ length s → from_le_bytes w64 (take (at + 8 - at) (drop at s)) ≡ bytes_at s at
+le-bytes s at fits =
+    let byte = byte-at s at fits in
+    let first : get_or s (at + 0) 0 ≡ get_or s at 0 = ap (λ (j : ℕ). get_or s j 0) (omega arith) in
+    let n : at + 8 - at ≡ 8 = omega arith in
+    rw n (le-sum (take 8 (drop at s)) ∙ omega (arith, eight-bytes s at fits, byte 0 (omega arith), byte 1 (omega arith), byte 2 (omega arith), byte 3 (omega arith), byte 4 (omega arith), byte 5 (omega arith), byte 6 (omega arith), byte 7 (omega arith), first))
+
 pub figures : (s : List ℕ) (q r g n : ℕ) → Figures s q r g n
 unfolding figure_refusal figure_in
 figures s q r g n =
@@ -51,7 +64,7 @@ figures s q r g n =
       zero = λ i e. rw (yes-in (figure_ok q r g n) (means-range q r g n) i, eq-eqb (length s) (1296 * q) e);
       figure = λ i e.
           let given : figure_refusal (length s) q r g n ≡ 0 = rw (yes-in (figure_ok q r g n) (means-range q r g n) i, eq-eqb (length s) (1296 * q) e) in
-          let inside = (found (length s) q r g n (figure_refusal (length s) q r g n) refl given).within in
+          let inside = (accepted (length s) q r g n (sym given)).within in
           rw (yes-in (figure_ok q r g n) (means-range q r g n) i, eq-eqb (length s) (1296 * q) e)
           (eight-bytes s (8 * (((r - 1) * 81 + (g - 1)) * q + (n - 1))) (omega (arith, inside, e)));
       none = λ ne. rw (ne_eqb (figure_refusal (length s) q r g n) 0 ne);

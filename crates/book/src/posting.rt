@@ -6,6 +6,7 @@ ghost use Rattle.book.specs.Row.{back};
 use crate::{Way, row};
 
 // The q values from `at` on, into the q figures from `start` on, or out of them.
+#[tactic(auto, unfolding(crate::specs::Posting::posted, crate::specs::Row::part, crate::specs::Row::splice))]
 pub fn post(way: Way, book: &mut [u64], start: usize, q: usize, values: &[u64], at: usize)
     requires { (start + q ≤ length book.old) × (at + q ≤ length values.now) }
     ensures { book.new ≡ posted way book.old start q values.now at }

@@ -5,6 +5,7 @@ ghost use Rattle.book.specs.Row.{zip, changed, back};
 use crate::Way;
 use quantity::{WattHours, word};
 
+#[tactic(auto, unfolding(crate::specs::Row::changed))]
 pub fn change(way: Way, figure: WattHours, energy: WattHours) -> WattHours
     ensures { result.0 ≡ changed way figure.0 energy.0 }
 {
@@ -19,20 +20,8 @@ pub fn change_row(way: Way, row: &mut [u64], series: &[u64])
     requires { length series.now ≡ length row.old }
     ensures { row.new ≡ zip (changed way) row.old series.now }
 {
-    let mut i = 0;
-    while i < row.len() {
-        let figure = change(way, WattHours(row[i]), WattHours(series[i]));
-        row[i] = figure.0;
-        i += 1;
-    }
-}
-
-pub fn opposite(way: Way) -> Way
-    ensures { result ≡ back way }
-{
-    match way {
-        Way::In => Way::Out,
-        Way::Out => Way::In,
+    for (i, figure) in row.iter_mut().enumerate() {
+        *figure = change(way, WattHours(*figure), WattHours(series[i])).0;
     }
 }
 
@@ -41,12 +30,9 @@ pub fn replace_row(way: Way, row: &mut [u64], old: &[u64], new: &[u64])
     requires { (length old.now ≡ length row.old) × (length new.now ≡ length row.old) }
     ensures { row.new ≡ zip (changed way) (zip (changed (back way)) row.old old.now) new.now }
 {
-    let undo = opposite(way);
-    let mut i = 0;
-    while i < row.len() {
-        let without = change(undo, WattHours(row[i]), WattHours(old[i]));
-        let figure = change(way, without, WattHours(new[i]));
-        row[i] = figure.0;
-        i += 1;
+    let undo = way.opposite();
+    for (i, figure) in row.iter_mut().enumerate() {
+        let without = change(undo, WattHours(*figure), WattHours(old[i]));
+        *figure = change(way, without, WattHours(new[i])).0;
     }
 }

@@ -1,21 +1,19 @@
 -- What the answers are as numbers. Assumes nothing.
+use Rattle.std.proofs.lemmas.Grind.{common_steps}
 use Prim.Native.Nat.{ℕ, ◌+◌, ◌*◌, ◌%◌, ◌≤◌, ◌<◌}
 use mathlib.Core.Path.{◌≡◌, refl, ap, sym, subst⁻¹, ◌∙◌}
 use mathlib.Core.Logic.{◌⊎◌, inl, inr}
 use native.Mathlib.Nat.{eq-or-lt_of_le}
 use native.Mathlib.Omega.{arith}
+use Rattle.std.specs.Prelude.{Option, Some, None}
 use Rattle.quantity.specs.Meaning.{Between}
-use Rattle.quantity.proofs.Tests.{by-test}
 use Rattle.workdays.specs.declared.Month.{Month}
 use Rattle.workdays.specs.declared.Date.{Date}
-use Rattle.calendar.specs.declared.DateAnswer.{DateAnswer}
-use Rattle.calendar.specs.declared.DateAnswer.TheVariants.{Dated, NoDate}
-use Rattle.workdays.specs.Date.{leap, days_in, days_of, IsMonth, IsDate, last_of, digits_of, date_ok, day_of_year, weekday}
+use Rattle.workdays.specs.Date.{leap, days_in, days_of, IsMonth, IsDate, last_of, digits_of, day_of_year, weekday}
 use Rattle.workdays.specs.Count.{up_to, number_of}
 use Rattle.workdays.specs.Laws.{next_day, weekday_of, after, working_after}
 use Rattle.calendar.specs.Answer.{number, day_for, FirstWith, day_refusal, day_number, date_refusal, date_digits, OfFirst, weekday_for}
 use Rattle.calendar.specs.Laws.{AsNumbers, FirstDay, Weekdays, last_date}
-use Rattle.workdays.proofs.Lengths.{means-date}
 use Rattle.workdays.proofs.Counts.{later, last-date}
 use Rattle.workdays.proofs.Listed.{week}
 use Rattle.workdays.proofs.Reckoning.{reckoned}
@@ -36,7 +34,7 @@ module _ (m : Month) where
           (record { settled = p; exists = q; after = h; counted = omega (arith, later (last_of m) d (last-date m p) q h); small = s })
 
   -- the first date with a number, found day by day
-  first-day : (n : ℕ) (d : Date) → FirstWith m n (Dated d) → (k : ℕ) → after m k ≡ d → FirstDay m n k
+  first-day : (n : ℕ) (d : Date) → FirstWith m n (Some d) → (k : ℕ) → after m k ≡ d → FirstDay m n k
   first-day n d f k e =
       record {
         inside = inside;
@@ -73,18 +71,18 @@ module _ (m : Month) where
       digits : (d : Date) (k : ℕ) → after m k ≡ d → s ≡ digits_of d → s ≡ (after m k).year * 10000 + (after m k).month * 100 + (after m k).day
       digits d k e t = t ∙ ap digits_of (sym e)
 
-      by : (a : DateAnswer) → FirstWith m n a → r ≡ date_refusal a → s ≡ date_digits a → (r ≡ 0) × ((k : ℕ) × (FirstDay m n k × (s ≡ (after m k).year * 10000 + (after m k).month * 100 + (after m k).day)))
-      by (Dated d) f e t =
+      by : (a : Option Date) → FirstWith m n a → r ≡ date_refusal a → s ≡ date_digits a → (r ≡ 0) × ((k : ℕ) × (FirstDay m n k × (s ≡ (after m k).year * 10000 + (after m k).month * 100 + (after m k).day)))
+      by (Some d) f e t =
           let c : Counted m d n = day-known m d n f.0 in
           let w = reaches m p d c.exists c.after in
           (e, (w.0, (first-day n d f w.0 w.1, digits d w.0 w.1 t)))
-      by NoDate f e t = absurd (omega (arith, only-no-first m n f p l))
+      by None f e t = absurd (omega (arith, only-no-first m n f p l))
 
   no-date-told : (n r s : ℕ) → OfFirst date_refusal m n r → OfFirst date_digits m n s → (IsMonth m → n ≤ 400 → number_of m last_date < n) → (r ≡ 36) × (s ≡ 0)
   no-date-told n r s x y f = (x.1.1 ∙ ap date_refusal (same x.0 x.1.0), y.1.1 ∙ ap date_digits (same y.0 y.1.0))
     where
-      same : (a : DateAnswer) → FirstWith m n a → a ≡ NoDate
-      same a h = one-answer m n a NoDate h (no-first m n f)
+      same : (a : Option Date) → FirstWith m n a → a ≡ None
+      same a h = one-answer m n a None h (no-first m n f)
 
 pub as-numbers : (m : Month) → AsNumbers m
 as-numbers m =
@@ -97,10 +95,10 @@ as-numbers m =
 
 -- a date's weekday, and 0 of what is none
 weekday-told : (d : Date) → IsDate d → weekday_for d ≡ weekday_of d
-weekday-told d q = by-test (λ (n : ℕ). n ≡ weekday_of d) (date_ok d) (weekday_of d) 0 (λ _. refl) (λ e. absurd ((means-date d).fails e q))
+weekday-told d q = grind (arith, common_steps)
 
 no-weekday-told : (d : Date) → (IsDate d → ⊥) → weekday_for d ≡ 0
-no-weekday-told d n = by-test (λ (w : ℕ). w ≡ 0) (date_ok d) (weekday_of d) 0 (λ e. absurd (n ((means-date d).holds e))) (λ _. refl)
+no-weekday-told d n = grind (arith, common_steps)
 
 next_weekday : (d : Date) → IsDate d → (next_day d).year ≤ 2059 → weekday_for (next_day d) ≡ weekday_for d % 7 + 1
 next_weekday d q y =

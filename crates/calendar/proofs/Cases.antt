@@ -4,13 +4,13 @@ use Prim.Native.Nat.{ℕ, ◌+◌}
 use mathlib.Core.Bool.{true}
 use borrow.Author.Tests.{eqb-true, leb-true}
 use lib.Dec.{eqb, leb}
+use Rattle.std.specs.Prelude.{None}
 use Rattle.workdays.specs.declared.Month.{Month}
 use Rattle.workdays.specs.declared.Date.{Date}
 use native.Mathlib.Omega.{arith}
 use Rattle.workdays.specs.Date.{leap, days_in, days_of, weekday, month_named, date_named, month_of, index_of, month_ok, date_ok}
 use Rattle.workdays.specs.Rule.{full_moon, easter_day, off}
 use Rattle.workdays.specs.Count.{worked, before}
-use Rattle.calendar.specs.declared.DateAnswer.TheVariants.{NoDate}
 use Rattle.calendar.specs.Answer.{number, day_for, FirstWith}
 use Rattle.calendar.specs.Laws.{last_date}
 use Rattle.calendar.specs.Cases.{Cases}
@@ -27,7 +27,7 @@ end-day : day_for (month_named 2059 11) last_date ≡ number 19
 unfolding worked off easter_day full_moon weekday days_of days_in leap
 end-day = by-count _ _ 19 refl refl refl refl refl
 
-none : FirstWith (month_named 2059 11) 20 NoDate
+none : FirstWith (month_named 2059 11) 20 None
 none = (answers (month_named 2059 11)).no_date 20 (λ _ _. omega (arith, (day-known (month_named 2059 11) last_date 19 end-day).counted))
 
 pub cases : Cases

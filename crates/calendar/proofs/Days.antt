@@ -1,14 +1,18 @@
 -- When a date has a day number, and which, in numbers. Assumes nothing.
+use Rattle.std.proofs.lemmas.Grind.{common_steps}
 use Prim.Native.Nat.{ℕ, ◌+◌, ◌-◌, ◌≤◌, ◌<◌}
 use mathlib.Core.Path.{◌≡◌, refl, sym, ap, subst, ◌∙◌}
 use mathlib.Core.Bool.{Bool, true, false, cond, ◌&&◌}
 use native.Mathlib.Omega.{arith}
+use Rattle.std.specs.Prelude.{None}
+use borrow.Author.Tests.{eqb-true, eqb-false, leb-true, leb-false}
+use lib.Dec.{eqb, leb}
+use Rattle.std.specs.Bool.{then_some}
 use Rattle.quantity.proofs.Meanings.{means-and, means-le, means-so}
 use Rattle.quantity.specs.Limits.{day_ok}
 use Rattle.quantity.specs.Meaning.{Means}
 use Rattle.workdays.specs.declared.Month.{Month}
 use Rattle.workdays.specs.declared.Date.{Date}
-use Rattle.calendar.specs.declared.DayAnswer.TheVariants.{NoDay}
 use Rattle.workdays.specs.Date.{month_ok, date_ok, IsMonth, IsDate, last_of, length_of, digits_of, index_of, month_of}
 use Rattle.workdays.specs.Count.{up_to, number_of, worked, before}
 use Rattle.calendar.specs.Answer.{counts, number, day_number, day_for}
@@ -44,26 +48,19 @@ module _ (m : Month) (d : Date) where
   unfolding day_for
   day-known n = of _ (means-number m d)
     where
-      of : (t : Bool) → Means t (Counted m d (number_of m d)) → cond t (number (number_of m d)) NoDay ≡ number n → Counted m d n
+      of : (t : Bool) → Means t (Counted m d (number_of m d)) → cond t (number (number_of m d)) None ≡ number n → Counted m d n
       of true k e = subst (Counted m d) (ap day_number e) (k.holds refl)
       of false k e = let z : ◌≡◌ {A = ℕ} 0 1 = cc in absurd (omega arith)
 
   pub day-given : (n : ℕ) → Counted m d n → day_for m d ≡ number n
   unfolding day_for
-  day-given n r = of _ (means-number m d)
-    where
-      same : number_of m d ≡ n
-      same = omega (arith, r.counted)
+  day-given n r = grind (arith, common_steps)
 
-      of : (t : Bool) → Means t (Counted m d (number_of m d)) → cond t (number (number_of m d)) NoDay ≡ number n
-      of true k = ap number same
-      of false k = absurd (k.fails refl (subst (Counted m d) (sym same) r))
-
-  pub day-refused : ((n : ℕ) → Counted m d n → ⊥) → day_for m d ≡ NoDay
+  pub day-refused : ((n : ℕ) → Counted m d n → ⊥) → day_for m d ≡ None
   unfolding day_for
   day-refused none = of _ (means-number m d)
     where
-      of : (t : Bool) → Means t (Counted m d (number_of m d)) → cond t (number (number_of m d)) NoDay ≡ NoDay
+      of : (t : Bool) → Means t (Counted m d (number_of m d)) → cond t (number (number_of m d)) None ≡ None
       of true k = absurd (none (number_of m d) (k.holds refl))
       of false k = refl
 
@@ -81,21 +78,29 @@ last-zero m p =
 
 -- A date's month against the settled one, by their places.
 module _ (m : Month) (d : Date) (p : IsMonth m) (q : IsDate d) (i j : ℕ) (from : i ≡ index_of m) (to : j ≡ index_of (month_of d)) where
-  pub month-before : j < i → day_for m d ≡ NoDay
+  pub month-before : j < i → day_for m d ≡ None
   month-before h = day-refused m d (λ n r. omega (arith, place-rises (last_of m) d (last-date m p) q r.after))
 
   same : j ≡ i → month_of d ≡ m
   same h = same-place (month_of d) m q.0 p (sym to ∙ h ∙ from)
 
-  pub last_day : j ≡ i → d.day ≡ length_of m → day_for m d ≡ number 0
+  last_day : j ≡ i → d.day ≡ length_of m → day_for m d ≡ number 0
   last_day h e =
       let y : d.year ≡ m.year = ap (λ (k : Month). k.year) (same h) in
       let n : d.month ≡ m.month = ap (λ (k : Month). k.month) (same h) in
       let is : d ≡ last_of m = same-date y n e in
       ap (day_for m) is ∙ last-zero m p
 
-  pub earlier-day : j ≡ i → (d.day ≡ length_of m → ⊥) → day_for m d ≡ NoDay
+  earlier-day : j ≡ i → (d.day ≡ length_of m → ⊥) → day_for m d ≡ None
   earlier-day h other = day-refused m d (λ n r. other (omega (arith, day-rises (last_of m) d (sym (same h)) r.after, ap length_of (same h))))
+
+  -- in the settled month the last day alone has a number
+  pub in-same : j ≡ i → (l : ℕ) → l ≡ length_of m → then_some (eqb d.day l) (record { 0 = 0 }) ≡ day_for m d
+  in-same h l e = of (eqb d.day l) refl
+    where
+      of : (b : Bool) → eqb d.day l ≡ b → then_some b (record { 0 = 0 }) ≡ day_for m d
+      of true t = sym (last_day h (eqb-true d.day l t ∙ e))
+      of false t = sym (earlier-day h (λ x. eqb-false d.day l t (x ∙ sym e)))
 
   module _ (h : i < j) (a w b : ℕ) (x : a ≡ before j) (y : w ≡ worked (month_of d) d.day) (z : b ≡ before (i + 1)) where
     base : up_to (last_of m) ≡ b
@@ -107,7 +112,7 @@ module _ (m : Month) (d : Date) (p : IsMonth m) (q : IsDate d) (i j : ℕ) (from
     pub least : b ≤ a + w
     least = omega (arith, before-rises (i + 1) j (omega arith))
 
-    pub number-given : a + w - b ≤ 400 → day_for m d ≡ number (a + w - b)
+    number-given : a + w - b ≤ 400 → day_for m d ≡ number (a + w - b)
     number-given s =
         day-given m d (a + w - b)
         (record {
@@ -118,12 +123,19 @@ module _ (m : Month) (d : Date) (p : IsMonth m) (q : IsDate d) (i j : ℕ) (from
           small = s;
         })
 
-    pub number-refused : 400 < a + w - b → day_for m d ≡ NoDay
+    number-refused : 400 < a + w - b → day_for m d ≡ None
     number-refused s = day-refused m d (λ n r. omega (arith, base, whole, r.counted, r.small))
 
+    pub in-later : then_some (leb (a + w - b) 400) (record { 0 = a + w - b }) ≡ day_for m d
+    in-later = of (leb (a + w - b) 400) refl
+      where
+        of : (t : Bool) → leb (a + w - b) 400 ≡ t → then_some t (record { 0 = a + w - b }) ≡ day_for m d
+        of true e = sym (number-given (leb-true (a + w - b) 400 e))
+        of false e = sym (number-refused (leb-false (a + w - b) 400 e))
+
 -- "a settled month or a date that does not exist or lies outside those years"
-pub no-such : (m : Month) (d : Date) → (month_ok m && date_ok d) ≡ false → day_for m d ≡ NoDay
-no-such m d e = day-refused m d (λ n r. (means-and _ _ (means-month m) (λ _. means-date d)).fails e (r.settled, r.exists))
+pub no-such : (m : Month) (d : Date) (a b : Bool) → a ≡ month_ok m → b ≡ date_ok d → (a && b) ≡ false → day_for m d ≡ None
+no-such m d a b p q e = day-refused m d (λ n r. (means-and _ _ (means-month m) (λ _. means-date d)).fails (cc e) (r.settled, r.exists))
 
 -- in the month after the settled one the number is the month's own count
 pub month-behind : (m : Month) (d : Date) → IsMonth m → IsDate d → index_of (month_of d) ≡ index_of m + 1 → (n : ℕ) → worked (month_of d) d.day ≡ n → n ≤ 400 → day_for m d ≡ number n

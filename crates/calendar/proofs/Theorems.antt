@@ -1,4 +1,5 @@
 -- What the answers are, for any settled month. Assumes nothing.
+use Rattle.std.proofs.lemmas.Grind.{common_steps}
 use Prim.Native.Nat.{ℕ, ◌≤◌, ◌<◌}
 use mathlib.Core.Path.{◌≡◌, refl, ap, ◌∙◌}
 use mathlib.Core.Bool.{Bool, true, false}
@@ -6,13 +7,11 @@ use mathlib.Core.Logic.{◌⊎◌, inl, inr}
 use native.Mathlib.Omega.{arith}
 use borrow.Author.Tests.{leb-true, leb-false}
 use lib.Dec.{leb}
+use Rattle.std.specs.Prelude.{Option, Some, None}
 use Rattle.quantity.specs.Meaning.{Between}
+use Rattle.quantity.specs.declared.Day.{Day}
 use Rattle.workdays.specs.declared.Month.{Month}
 use Rattle.workdays.specs.declared.Date.{Date}
-use Rattle.calendar.specs.declared.DayAnswer.{DayAnswer}
-use Rattle.calendar.specs.declared.DayAnswer.TheVariants.{Numbered, NoDay}
-use Rattle.calendar.specs.declared.DateAnswer.{DateAnswer}
-use Rattle.calendar.specs.declared.DateAnswer.TheVariants.{Dated, NoDate}
 use Rattle.workdays.specs.Date.{days_in, IsMonth, IsDate, last_of, digits_of}
 use Rattle.workdays.specs.Count.{up_to, number_of}
 use Rattle.workdays.specs.Laws.{after, working_after}
@@ -34,7 +33,7 @@ same-digits d e p q h =
 -- the last day of those years is a date, and none is later
 last-is : IsDate last_date
 unfolding days_in
-last-is = (((omega arith, omega arith), (omega arith, omega arith)), (omega arith, omega arith))
+last-is = grind (arith, common_steps)
 
 none-later : (d : Date) → IsDate d → digits_of d ≤ digits_of last_date
 none-later d q = let a = month-length d.year d.month in omega arith
@@ -52,20 +51,20 @@ module _ (m : Month) where
       let s : Counted m e b = day-known m e b y in
       omega (arith, r.counted, s.counted, later d e r.exists s.exists h)
 
-  pub one-answer : (n : ℕ) (a b : DateAnswer) → FirstWith m n a → FirstWith m n b → a ≡ b
-  one-answer n (Dated d) (Dated e) x y =
-      ap Dated (same-digits d e (day-known m d n x.0).exists (day-known m e n y.0).exists (le-both (x.1 e y.0) (y.1 d x.0)))
+  pub one-answer : (n : ℕ) (a b : Option Date) → FirstWith m n a → FirstWith m n b → a ≡ b
+  one-answer n (Some d) (Some e) x y =
+      ap Some (same-digits d e (day-known m d n x.0).exists (day-known m e n y.0).exists (le-both (x.1 e y.0) (y.1 d x.0)))
     where
       le-both : {a b : ℕ} → a ≤ b → b ≤ a → a ≡ b
       le-both p q = omega arith
-  one-answer n (Dated d) NoDate x y = absurd (y d x.0)
-  one-answer n NoDate (Dated d) x y = absurd (x d y.0)
-  one-answer n NoDate NoDate x y = refl
+  one-answer n (Some d) None x y = absurd (y d x.0)
+  one-answer n None (Some d) x y = absurd (x d y.0)
+  one-answer n None None x y = refl
 
-  pub refused : (d : Date) → (IsMonth m → IsDate d → digits_of (last_of m) ≤ digits_of d → 400 < number_of m d) → day_for m d ≡ NoDay
+  pub refused : (d : Date) → (IsMonth m → IsDate d → digits_of (last_of m) ≤ digits_of d → 400 < number_of m d) → day_for m d ≡ None
   refused d f = day-refused m d (λ n r. omega (arith, f r.settled r.exists r.after, r.counted, r.small))
 
-  only-refused : (d : Date) → day_for m d ≡ NoDay → IsMonth m → IsDate d → digits_of (last_of m) ≤ digits_of d → 400 < number_of m d
+  only-refused : (d : Date) → day_for m d ≡ None → IsMonth m → IsDate d → digits_of (last_of m) ≤ digits_of d → 400 < number_of m d
   only-refused d e p q h = by (leb (number_of m d) 400) refl
     where
       given : number_of m d ≤ 400 → day_for m d ≡ number (number_of m d)
@@ -77,12 +76,12 @@ module _ (m : Month) where
       by true x = let z : ◌≡◌ {A = ℕ} 0 1 = cc (given (leb-true (number_of m d) 400 x)) in absurd (omega arith)
       by false x = leb-false (number_of m d) 400 x
 
-  pub no-first : (n : ℕ) → (IsMonth m → n ≤ 400 → number_of m last_date < n) → FirstWith m n NoDate
+  pub no-first : (n : ℕ) → (IsMonth m → n ≤ 400 → number_of m last_date < n) → FirstWith m n None
   no-first n f e x =
       let r : Counted m e n = day-known m e n x in
       omega (arith, f r.settled r.small, r.counted, later e last_date r.exists last-is (none-later e r.exists))
 
-  pub only-no-first : (n : ℕ) → FirstWith m n NoDate → IsMonth m → n ≤ 400 → number_of m last_date < n
+  pub only-no-first : (n : ℕ) → FirstWith m n None → IsMonth m → n ≤ 400 → number_of m last_date < n
   only-no-first n f p s = by (leb n (number_of m last_date)) refl
     where
       reached : n ≤ number_of m last_date → (k : ℕ) × (after m k ≡ last_date) → ⊥
@@ -104,19 +103,19 @@ module _ (m : Month) where
       by true x = absurd (found (leb-true n (number_of m last_date) x))
       by false x = leb-false n (number_of m last_date) x
 
-  in-range : (d : Date) (a : DayAnswer) → day_for m d ≡ a → Between 0 400 (day_number a) × ((day_refusal a ≡ 0) ⊎ (day_refusal a ≡ 36))
-  in-range d (Numbered n) e = ((omega arith, (day-known m d n.0 e).small), inl refl)
-  in-range d NoDay e = ((omega arith, omega arith), inr refl)
+  in-range : (d : Date) (a : Option Day) → day_for m d ≡ a → Between 0 400 (day_number a) × ((day_refusal a ≡ 0) ⊎ (day_refusal a ≡ 36))
+  in-range d (Some n) e = ((omega arith, (day-known m d n.0 e).small), inl refl)
+  in-range d None e = ((omega arith, omega arith), inr refl)
 
   in-years : (n r s : ℕ) → OfFirst date_digits m n r → OfFirst date_refusal m n s → (Between 20200101 20591231 r × (s ≡ 0)) ⊎ ((r ≡ 0) × (s ≡ 36))
   in-years n r s x y = by x.0 x.1.0 x.1.1 (y.1.1 ∙ ap date_refusal (one-answer n y.0 x.0 y.1.0 x.1.0))
     where
-      by : (a : DateAnswer) → FirstWith m n a → r ≡ date_digits a → s ≡ date_refusal a → (Between 20200101 20591231 r × (s ≡ 0)) ⊎ ((r ≡ 0) × (s ≡ 36))
-      by (Dated d) h e f =
+      by : (a : Option Date) → FirstWith m n a → r ≡ date_digits a → s ≡ date_refusal a → (Between 20200101 20591231 r × (s ≡ 0)) ⊎ ((r ≡ 0) × (s ≡ 36))
+      by (Some d) h e f =
           let q : IsDate d = (day-known m d n h.0).exists in
           let l = none-later d q in
           inl ((omega arith, omega arith), f)
-      by NoDate h e f = inr (e, f)
+      by None h e f = inr (e, f)
 
 pub answers : (m : Month) → Answers m
 answers m =

@@ -1,12 +1,9 @@
 -- The answers: a date's day number, a number's date, or 36.
-use Rattle.std.specs.Prelude.{ℕ, ◌≤◌, ◌≡◌, Bool, cond, ◌&&◌, leb}
+use Rattle.std.specs.Prelude.{ℕ, ◌≤◌, ◌≡◌, Bool, cond, ◌&&◌, leb, Option, Some, None}
 use Rattle.quantity.specs.Limits.{day_ok}
+use Rattle.quantity.specs.declared.Day.{Day}
 use Rattle.workdays.specs.declared.Month.{Month}
 use Rattle.workdays.specs.declared.Date.{Date}
-use Rattle.calendar.specs.declared.DayAnswer.{DayAnswer}
-use Rattle.calendar.specs.declared.DayAnswer.TheVariants.{Numbered, NoDay}
-use Rattle.calendar.specs.declared.DateAnswer.{DateAnswer}
-use Rattle.calendar.specs.declared.DateAnswer.TheVariants.{Dated, NoDate}
 use Rattle.workdays.specs.Date.{month_ok, date_ok, last_of, digits_of, day_of_year, weekday}
 use Rattle.workdays.specs.Count.{number_of}
 
@@ -19,41 +16,43 @@ abbrev pub counts : Month → Date → Bool
 counts m d = month_ok m && (date_ok d && leb (digits_of (last_of m)) (digits_of d))
 
 -- a day number, "its own case of the answer"
-abbrev pub number : ℕ → DayAnswer
-number n = Numbered (record { 0 = n })
+abbrev pub number : ℕ → Option Day
+number n = Some (record { 0 = n })
 
 -- a date's day number; 36 also "for a number, .. worked out, above 400"
-unfoldable pub day_for : (settled : Month) → Date → DayAnswer
-day_for m d = cond (counts m d && day_ok (number_of m d)) (number (number_of m d)) NoDay
+unfoldable pub day_for : (settled : Month) → Date → Option Day
+day_for m d = cond (counts m d && day_ok (number_of m d)) (number (number_of m d)) None
 
 -- "the way back gives the first date with that number"; 36 where no date has it
-abbrev pub FirstWith : (settled : Month) (number : ℕ) → DateAnswer → Type 0
-FirstWith m n (Dated d) = (day_for m d ≡ number n) × ((e : Date) → day_for m e ≡ number n → digits_of d ≤ digits_of e)
-FirstWith m n NoDate = (e : Date) → day_for m e ≡ number n → ⊥
+abbrev pub FirstWith : (settled : Month) (number : ℕ) → Option Date → Type 0
+FirstWith m n (Some d) = (day_for m d ≡ number n) × ((e : Date) → day_for m e ≡ number n → digits_of d ≤ digits_of e)
+FirstWith m n None = (e : Date) → day_for m e ≡ number n → ⊥
 
 -- the answers as numbers, for a host: one entry gives the refusal, 0 where there is none
-abbrev pub day_refusal : DayAnswer → ℕ
-day_refusal (Numbered n) = 0
-day_refusal NoDay = no_date
+abbrev pub refusal_of : {A : Type 0} → Option A → ℕ
+refusal_of (Some a) = 0
+refusal_of None = no_date
+
+abbrev pub day_refusal : Option Day → ℕ
+day_refusal a = refusal_of a
 
 -- another the number, 0 where it is refused
-abbrev pub day_number : DayAnswer → ℕ
-day_number (Numbered n) = n.0
-day_number NoDay = 0
+abbrev pub day_number : Option Day → ℕ
+day_number (Some n) = n.0
+day_number None = 0
 
 -- the same of a date
-abbrev pub date_refusal : DateAnswer → ℕ
-date_refusal (Dated d) = 0
-date_refusal NoDate = no_date
+abbrev pub date_refusal : Option Date → ℕ
+date_refusal a = refusal_of a
 
 -- the date, 20261112 for 12 November 2026, and 0 where it is refused
-abbrev pub date_digits : DateAnswer → ℕ
-date_digits (Dated d) = digits_of d
-date_digits NoDate = 0
+abbrev pub date_digits : Option Date → ℕ
+date_digits (Some d) = digits_of d
+date_digits None = 0
 
 -- such a number of the first date with a day number
-abbrev pub OfFirst : (DateAnswer → ℕ) → (settled : Month) (number : ℕ) → ℕ → Type 0
-OfFirst f m n r = (a : DateAnswer) × (FirstWith m n a × (r ≡ f a))
+abbrev pub OfFirst : (Option Date → ℕ) → (settled : Month) (number : ℕ) → ℕ → Type 0
+OfFirst f m n r = (a : Option Date) × (FirstWith m n a × (r ≡ f a))
 
 -- Monday is 1, Sunday 7; 0 of what is no date of those years
 abbrev pub weekday_for : Date → ℕ

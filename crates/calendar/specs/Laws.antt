@@ -1,11 +1,8 @@
 -- What a date's number and a number's date are, in other words.
-use Rattle.std.specs.Prelude.{ℕ, ◌+◌, ◌*◌, ◌%◌, ◌≤◌, ◌<◌, ◌≡◌, ◌⊎◌}
+use Rattle.std.specs.Prelude.{ℕ, ◌+◌, ◌*◌, ◌%◌, ◌≤◌, ◌<◌, ◌≡◌, ◌⊎◌, Option, Some, None}
 use Rattle.quantity.specs.Meaning.{Between}
 use Rattle.workdays.specs.declared.Month.{Month}
 use Rattle.workdays.specs.declared.Date.{Date}
-use Rattle.calendar.specs.declared.DayAnswer.TheVariants.{NoDay}
-use Rattle.calendar.specs.declared.DateAnswer.{DateAnswer}
-use Rattle.calendar.specs.declared.DateAnswer.TheVariants.{Dated, NoDate}
 use Rattle.workdays.specs.Date.{IsMonth, IsDate, date_named, last_of, digits_of}
 use Rattle.workdays.specs.Laws.{next_day, after, working_after}
 use Rattle.workdays.specs.Count.{number_of}
@@ -22,20 +19,20 @@ pub record Answers (m : Month) : Type 0 where
   -- a later date never has a smaller number
   pub rises : (d e : Date) (a b : ℕ) → digits_of d ≤ digits_of e → day_for m d ≡ number a → day_for m e ≡ number b → a ≤ b
   -- number, date, number: the same
-  pub back : (n : ℕ) (d : Date) → FirstWith m n (Dated d) → day_for m d ≡ number n
+  pub back : (n : ℕ) (d : Date) → FirstWith m n (Some d) → day_for m d ≡ number n
   -- there is one answer
-  pub only : (n : ℕ) (a b : DateAnswer) → FirstWith m n a → FirstWith m n b → a ≡ b
+  pub only : (n : ℕ) (a b : Option Date) → FirstWith m n a → FirstWith m n b → a ≡ b
   -- "for 0 the month's last day"
-  pub zero_last : IsMonth m → FirstWith m 0 (Dated (last_of m))
+  pub zero_last : IsMonth m → FirstWith m 0 (Some (last_of m))
   -- any numbers get an answer of the table: 36, or a number up to 400; 36, or a date of those years
   pub day_range : (d : Date) → Between 0 400 (day_number (day_for m d)) × ((day_refusal (day_for m d) ≡ 0) ⊎ (day_refusal (day_for m d) ≡ 36))
   pub date_range : (n r s : ℕ) → OfFirst date_digits m n r → OfFirst date_refusal m n s → (Between 20200101 20591231 r × (s ≡ 0)) ⊎ ((r ≡ 0) × (s ≡ 36))
   -- "36 for a settled month or a date that does not exist or lies outside those years, for a date before the settled month's last day, and for a number, .. worked out, above 400"
-  pub no_day : (d : Date) → (IsMonth m → IsDate d → digits_of (last_of m) ≤ digits_of d → 400 < number_of m d) → day_for m d ≡ NoDay
-  pub only_no_day : (d : Date) → day_for m d ≡ NoDay → IsMonth m → IsDate d → digits_of (last_of m) ≤ digits_of d → 400 < number_of m d
+  pub no_day : (d : Date) → (IsMonth m → IsDate d → digits_of (last_of m) ≤ digits_of d → 400 < number_of m d) → day_for m d ≡ None
+  pub only_no_day : (d : Date) → day_for m d ≡ None → IsMonth m → IsDate d → digits_of (last_of m) ≤ digits_of d → 400 < number_of m d
   -- 36 for "a number, given .., above 400 or whose date would lie outside those years"
-  pub no_date : (n : ℕ) → (IsMonth m → n ≤ 400 → number_of m last_date < n) → FirstWith m n NoDate
-  pub only_no_date : (n : ℕ) → FirstWith m n NoDate → IsMonth m → n ≤ 400 → number_of m last_date < n
+  pub no_date : (n : ℕ) → (IsMonth m → n ≤ 400 → number_of m last_date < n) → FirstWith m n None
+  pub only_no_date : (n : ℕ) → FirstWith m n None → IsMonth m → n ≤ 400 → number_of m last_date < n
 
 -- the first of those days up to which so many are working days
 pub record FirstDay (m : Month) (working k : ℕ) : Type 0 where

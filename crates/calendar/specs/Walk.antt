@@ -1,9 +1,8 @@
 -- What the way back finds on its way: the month that reaches a count, and the day in it.
-use Rattle.std.specs.Prelude.{ℕ, ◌+◌, ◌-◌, ◌≤◌, ◌<◌, ◌≡◌}
+use Rattle.std.specs.Prelude.{ℕ, ◌+◌, ◌-◌, ◌≤◌, ◌<◌, ◌≡◌, Option, Some, None}
 use Rattle.quantity.specs.Meaning.{Between}
 use Rattle.workdays.specs.declared.Month.{Month}
-use Rattle.calendar.specs.declared.DateAnswer.{DateAnswer}
-use Rattle.calendar.specs.declared.DateAnswer.TheVariants.{Dated, NoDate}
+use Rattle.workdays.specs.declared.Date.{Date}
 use Rattle.workdays.specs.Date.{months, length_of, month_of}
 use Rattle.workdays.specs.Count.{worked, before}
 
@@ -15,7 +14,7 @@ pub record MonthWith (start count found : ℕ) : Type 0 where
   pub high : found + 1 < months → count ≤ before (found + 1)
 
 -- a month's day of which so many working days are the first up to it; none where the month has fewer
-abbrev pub DayWith : Month → (count : ℕ) → DateAnswer → Type 0
-DayWith m k (Dated d) =
+abbrev pub DayWith : Month → (count : ℕ) → Option Date → Type 0
+DayWith m k (Some d) =
     (month_of d ≡ m) × (Between 1 (length_of m) d.day × ((worked m d.day ≡ k) × (worked m (d.day - 1) < k)))
-DayWith m k NoDate = worked m (length_of m) < k
+DayWith m k None = worked m (length_of m) < k

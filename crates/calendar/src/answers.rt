@@ -1,46 +1,43 @@
-// A date's day number for a settled month, by the table and the days of the date's own month; and the way back, by the table and the days of one month.
+// A date's day number for a settled month, by the table and the days of the date's own month; and the way back, by the table and the days of one month. `None` is refusal 36.
 ghost use Rattle.std.specs.Prelude.{◌≡◌, ◌<◌};
 ghost use Rattle.workdays.specs.Date.{months, IsMonth, IsDate};
 ghost use Rattle.workdays.specs.Count.{before};
 ghost use Rattle.calendar.specs.Answer.{day_for, FirstWith};
 ghost use Rattle.calendar.specs.Walk.{MonthWith, DayWith};
 
-use crate::{DateAnswer, DayAnswer, table};
+use crate::table;
 use quantity::Day;
 use quantity::limits::LAST_DAY;
-use workdays::{Date, Month, count, dates, easter, rule};
+use workdays::dates::MONTHS;
+use workdays::judged::JudgedMonth;
+use workdays::{Date, Month, count};
 
 // The number of a date that exists.
-fn number_of(settled: Month, date: Date) -> DayAnswer
+fn number_of(settled: Month, date: Date) -> Option<Day>
     requires { IsMonth settled × IsDate date }
     ensures { result ≡ day_for settled date }
 {
-    let month = dates::month_of(date);
-    let from = dates::index_of(settled);
-    let to = dates::index_of(month);
+    let month = Month::from(date);
+    let from = settled.place();
+    let to = month.place();
     if to < from {
-        return DayAnswer::NoDay;
+        return None;
     }
     if to == from {
-        if date.day == dates::days_in(settled.year, settled.month) {
-            return DayAnswer::Numbered(Day(0));
-        }
-        return DayAnswer::NoDay;
+        return (date.day == settled.days()).then_some(Day(0));
     }
     let n = table::entry(to) + count::worked_in(month, date.day) - table::entry(from + 1);
-    if n <= LAST_DAY {
-        return DayAnswer::Numbered(Day(n));
-    }
-    DayAnswer::NoDay
+    (n <= LAST_DAY).then_some(Day(n))
 }
 
-pub fn day_for(settled: Month, date: Date) -> DayAnswer
+pub fn day_for(settled: Month, date: Date) -> Option<Day>
     ensures { result ≡ day_for settled date }
 {
-    if dates::month_ok(settled) & dates::date_ok(date) {
-        return number_of(settled, date);
+    if settled.exists() && date.exists() {
+        number_of(settled, date)
+    } else {
+        None
     }
-    DayAnswer::NoDay
 }
 
 // The last month from a place on with fewer working days before it than a count.
@@ -48,63 +45,53 @@ fn month_with(start: usize, count: u64) -> usize
     requires { (start < months) × (before start < count) }
     ensures { MonthWith start count result }
 {
-    let mut i = start;
-    while i + 1 < dates::MONTHS {
-        if count <= table::entry(i + 1) {
-            return i;
-        }
-        i += 1;
-    }
-    i
+    let behind = (start + 1..MONTHS).find(|i| count <= table::entry(*i));
+    behind.unwrap_or(MONTHS) - 1
 }
 
 // The day of a month up to which it has so many working days.
-fn day_with(m: Month, working: u64) -> DateAnswer
-    requires { IsMonth m × (0 < working) }
-    ensures { DayWith m working result }
+fn day_with(month: Month, working: u64) -> Option<Date>
+    requires { IsMonth month × (0 < working) }
+    ensures { DayWith month working result }
 {
-    let start = dates::days_of(m.year, m.month - 1);
-    let easter = easter::easter_of(m.year);
-    let days = dates::days_in(m.year, m.month);
+    let judged = JudgedMonth::of(month);
     let mut count = 0;
-    let mut day = 0;
-    while day < days {
-        day += 1;
-        if !rule::is_off(m.year, easter, m.month * 100 + day, start + day) {
+    for day in 1..=month.days() {
+        if judged.works_on(day) {
             count += 1;
             if count == working {
-                return DateAnswer::Dated(Date {
-                    year: m.year,
-                    month: m.month,
+                return Some(Date {
+                    year: month.year,
+                    month: month.month,
                     day,
                 });
             }
         }
     }
-    DateAnswer::NoDate
+    None
 }
 
-pub fn date_for(settled: Month, number: Day) -> DateAnswer
+pub fn date_for(settled: Month, number: Day) -> Option<Date>
     ensures { FirstWith settled number.0 result }
 {
-    if !dates::month_ok(settled) {
-        return DateAnswer::NoDate;
+    if !settled.exists() {
+        return None;
     }
     if LAST_DAY < number.0 {
-        return DateAnswer::NoDate;
+        return None;
     }
     if number.0 == 0 {
-        return DateAnswer::Dated(Date {
+        return Some(Date {
             year: settled.year,
             month: settled.month,
-            day: dates::days_in(settled.year, settled.month),
+            day: settled.days(),
         });
     }
-    let next = dates::index_of(settled) + 1;
-    if next == dates::MONTHS {
-        return DateAnswer::NoDate;
+    let next = settled.place() + 1;
+    if next == MONTHS {
+        return None;
     }
     let count = table::entry(next) + number.0;
     let found = month_with(next, count);
-    day_with(dates::month_at(found), count - table::entry(found))
+    day_with(Month::at(found), count - table::entry(found))
 }

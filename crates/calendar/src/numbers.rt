@@ -1,11 +1,21 @@
 // The answers as numbers, for a host: one gives the refusal, another the number or the date, 0 where it is refused. The settled month comes by year and month, a date by y, m and d.
 ghost use Rattle.std.specs.Prelude.{◌≡◌};
 ghost use Rattle.workdays.specs.Date.{month_named, date_named};
-ghost use Rattle.calendar.specs.Answer.{day_for, day_refusal, day_number, date_refusal, date_digits, OfFirst, weekday_for};
+ghost use Rattle.calendar.specs.Answer.{day_for, refusal_of, day_refusal, day_number, date_refusal, date_digits, OfFirst, weekday_for};
 
-use crate::{DateAnswer, DayAnswer, NO_DATE, answers};
+use crate::{NO_DATE, answers};
 use quantity::Day;
 use workdays::{Date, Month, dates};
+
+// 0, or the refusal where there is no answer.
+fn refusal_of<T: Copy>(answer: Option<T>) -> u64
+    ensures { result ≡ refusal_of answer }
+{
+    match answer {
+        Some(_) => 0,
+        None => NO_DATE,
+    }
+}
 
 pub fn day_refusal(year: u64, month: u64, y: u64, m: u64, d: u64) -> u64
     ensures { result ≡ day_refusal (day_for (month_named year month) (date_named y m d)) }
@@ -15,10 +25,7 @@ pub fn day_refusal(year: u64, month: u64, y: u64, m: u64, d: u64) -> u64
         month: m,
         day: d,
     };
-    match answers::day_for(Month { year, month }, date) {
-        DayAnswer::Numbered(_) => 0,
-        DayAnswer::NoDay => NO_DATE,
-    }
+    refusal_of(answers::day_for(Month { year, month }, date))
 }
 
 pub fn day_number(year: u64, month: u64, y: u64, m: u64, d: u64) -> Day
@@ -29,19 +36,13 @@ pub fn day_number(year: u64, month: u64, y: u64, m: u64, d: u64) -> Day
         month: m,
         day: d,
     };
-    match answers::day_for(Month { year, month }, date) {
-        DayAnswer::Numbered(day) => day,
-        DayAnswer::NoDay => Day(0),
-    }
+    answers::day_for(Month { year, month }, date).unwrap_or(Day(0))
 }
 
 pub fn date_refusal(year: u64, month: u64, number: Day) -> u64
     ensures { OfFirst date_refusal (month_named year month) number.0 result }
 {
-    match answers::date_for(Month { year, month }, number) {
-        DateAnswer::Dated(_) => 0,
-        DateAnswer::NoDate => NO_DATE,
-    }
+    refusal_of(answers::date_for(Month { year, month }, number))
 }
 
 // Year, month and day as one number: 20261112.
@@ -49,8 +50,8 @@ pub fn date_digits(year: u64, month: u64, number: Day) -> u64
     ensures { OfFirst date_digits (month_named year month) number.0 result }
 {
     match answers::date_for(Month { year, month }, number) {
-        DateAnswer::Dated(date) => date.year * 10000 + date.month * 100 + date.day,
-        DateAnswer::NoDate => 0,
+        Some(date) => date.year * 10000 + date.month * 100 + date.day,
+        None => 0,
     }
 }
 
@@ -58,7 +59,8 @@ pub fn date_digits(year: u64, month: u64, number: Day) -> u64
 pub fn weekday_for(year: u64, month: u64, day: u64) -> u64
     ensures { result ≡ weekday_for (date_named year month day) }
 {
-    if !dates::date_ok(Date { year, month, day }) {
+    let date = Date { year, month, day };
+    if !date.exists() {
         return 0;
     }
     dates::weekday_of(year, dates::days_of(year, month - 1) + day)

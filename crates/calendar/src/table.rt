@@ -36,16 +36,10 @@ const TABLE: [u16; 480] = [
     9661, 9679, 9700, 9723, 9743, 9765, 9786, 9805,
 ];
 
-fn wide(n: u16) -> u64
-    ensures { result ≡ n }
-{
-    n as u64
-}
-
 // The entry of the month at a place.
 pub fn entry(i: usize) -> u64
     requires { i < months }
     ensures { (result ≡ before i) × (result ≤ 31 * i) }
 {
-    wide(TABLE[i])
+    u64::from(TABLE[i])
 }

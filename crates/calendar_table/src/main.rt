@@ -2,10 +2,11 @@
 #![tactic(auto)]
 
 ghost use Rattle.std.specs.Prelude.{◌+◌, ◌≤◌, length};
+ghost use Rattle.text.specs.Puts.{Puts};
 ghost use Rattle.text.specs.Text.{Put};
 ghost use Rattle.calendar_table.specs.Table.{line_of, table_text};
 
-use text::field;
+use text::Text;
 use workdays::dates::MONTHS;
 
 const STDOUT: i32 = 1;
@@ -15,12 +16,12 @@ const STDERR: i32 = 2;
 // An entry has at most 20 digits and a line end.
 const MOST: usize = 21 * MONTHS;
 
-fn put_line(out: &mut [u8], at: usize, n: u64) -> usize
-    requires { at + 21 ≤ length out.old }
-    ensures { Put 21 at (line_of n) out.old out.new result }
+fn put_line(text: &mut Text, n: u64)
+    requires { text.old.filled + 21 ≤ length text.old.buffer.now }
+    ensures { Puts 21 (line_of n) text.old text.new }
 {
-    let behind = field::put_number(out, at, n);
-    field::put_byte(out, behind, b'\n')
+    text.put_number(n);
+    text.put_byte(b'\n');
 }
 
 fn put_table(out: &mut [u8]) -> usize
@@ -28,13 +29,14 @@ fn put_table(out: &mut [u8]) -> usize
     ensures { Put 10080 0 table_text out.old out.new result }
 {
     let entries = workdays::generator::generate();
-    let mut at = 0;
-    let mut i = 0;
-    while i < MONTHS {
-        at = put_line(out, at, entries[i]);
-        i += 1;
+    let mut text = Text {
+        buffer: out,
+        filled: 0,
+    };
+    for entry in entries {
+        put_line(&mut text, entry);
     }
-    at
+    text.filled
 }
 
 // Whether the table got out.

@@ -7,6 +7,8 @@ use native.Mathlib.Nat.{add-sub_cancel_left}
 use native.Mathlib.Omega.{arith}
 use borrow.Author.Tests.{not-false}
 use lib.ListN.{length, take, drop}
+use Rattle.std.specs.Prelude.{Ok, Err}
+use Rattle.model.specs.Causes.{Ruling}
 use Rattle.quantity.specs.Limits.{groups, runs, run_rows, book_rows, run_ok, group_ok}
 use Rattle.quantity.proofs.Tests.{and-left, and-right, within-low, within-high}
 use Rattle.book.specs.Place.{group_row, row_start}
@@ -16,12 +18,9 @@ use Rattle.book.proofs.Rows.{length-part}
 use Rattle.state.specs.Valid.{Sound}
 use Rattle.state.specs.declared.Desk.{Desk}
 use Rattle.state.proofs.Bounds.{sound}
-use Rattle.model.specs.Call.{shows, Stores, Lengths, telling, lengths_of, answer_number, cause_number}
+use Rattle.model.specs.Call.{shows, Stores, Lengths, telling, lengths_of, answer_number}
 use Rattle.model.proofs.CauseNumbers.{number-in}
 use Rattle.model.specs.Step.{Outcome, refusal_by, step}
-use Rattle.model.specs.declared.Cause.{Cause}
-use Rattle.model.specs.declared.Ruling.{Ruling}
-use Rattle.model.specs.declared.Ruling.TheVariants.{Fine, Refuse}
 use Rattle.checks.specs.Stepped.{lent}
 use Rattle.checks.proofs.Deciding.{allowed, book-same, refused, granted}
 
@@ -39,7 +38,7 @@ pub record Showable (d : Desk) (run group size : ℕ) : Type 0 where
   pub most : group ≤ groups
   pub whole : size ≡ book_rows * d.frame.opening.quarters
 
-pub showable : (d : Desk) (run group : ℕ) (n : Lengths) → refusal_by d (telling n (shows run group)) ≡ Fine → Showable d run group n.book
+pub showable : (d : Desk) (run group : ℕ) (n : Lengths) → refusal_by d (telling n (shows run group)) ≡ Ok tt → Showable d run group n.book
 showable d run group n e =
     let h = allowed d (telling n (shows run group)) e in
     let s = sound d (not-false _ h.0) in
@@ -68,7 +67,7 @@ empty-exactly d run group s = go (refusal_by d (telling (lengths_of s) (shows ru
     o = step d (lent (shows run group) s)
 
     go : (v : Ruling) → v ≡ refusal_by d (telling (lengths_of s) (shows run group)) → (o.part ≡ []) ↔ (answer_number o.answer ≡ 0 → ⊥)
-    go Fine e =
+    go (Ok tt) e =
         let k = showable d run group (lengths_of s) (sym e) in
         let q = d.frame.opening.quarters in
         let b = part s.book (row_start q run (group_row group)) q in
@@ -76,6 +75,6 @@ empty-exactly d run group s = go (refusal_by d (telling (lengths_of s) (shows ru
         let m : 1 ≤ q = k.sound.quarters in
         let full : b ≡ [] → ⊥ = λ z. let y : length b ≡ 0 = ap length z in omega (arith, l, m, y) in
         rw (granted d (shows run group) s e refl) (λ z _. full z, λ f. absurd (f refl))
-    go (Refuse x) e =
+    go (Err x) e =
         let n = (number-in x).0 in
         rw (refused d (shows run group) s e refl) (λ _ z. omega (arith, n, z), λ _. refl)

@@ -11,14 +11,15 @@ use checks::decisions::{accept, at_work, outcome, refuse};
 use checks::limits::series_ok;
 use checks::looks::{asking_series, look};
 use checks::points::is_active;
-use checks::rules::or_if;
+use checks::rules::refuse_if;
 use checks::{Decided, Look, Outcome};
-use model::{Cause, Ruling};
+use model::Cause;
 use quantity::limits::{day_ok, point_ok};
 use quantity::{Day, PointNo};
 use state::changes::{active_record, put_point};
 use state::{Desk, Frame};
 
+#[tactic(auto, unfolding(model::specs::Step::refusal_by, model::specs::Causes::first_of, model::specs::Causes::or_if, quantity::specs::Lists::fold))]
 fn activate_ruling(
     frame: Frame,
     l: Look,
@@ -27,18 +28,16 @@ fn activate_ruling(
     area: u64,
     partner: u64,
     day: Day,
-) -> Ruling
+) -> Result<(), Cause>
     ensures { OfEach frame (asking_series point.0 kind area partner) l (λ d. (n : Lengths) → result ≡ refusal_by d (telling n (activates point.0 kind area partner day.0))) }
 {
-    let opening = frame.opening;
-    let here = l.here;
     let fits = point_ok(point) & (day_ok(day) & series_ok(kind, area, partner));
-    let v0 = at_work(l.valid, opening);
-    let v1 = or_if(v0, !fits, Cause::BadField);
-    let v2 = or_if(v1, day.0 < frame.day.0, Cause::PastDay);
-    let v3 = or_if(v2, opening.correction.0 < day.0, Cause::AfterCorrection);
-    let v4 = or_if(v3, is_active(here), Cause::PointActive);
-    or_if(v4, l.taken, Cause::SameSeries)
+    at_work(l.valid, frame.opening)?;
+    refuse_if(!fits, Cause::BadField)?;
+    refuse_if(day.0 < frame.day.0, Cause::PastDay)?;
+    refuse_if(frame.opening.correction.0 < day.0, Cause::AfterCorrection)?;
+    refuse_if(is_active(l.here), Cause::PointActive)?;
+    refuse_if(l.taken, Cause::SameSeries)
 }
 
 // What is decided, by the desk's frame and one look at it.
@@ -54,10 +53,9 @@ pub fn decide_activate(
     requires { Seen frame (asking_series point.0 kind area partner) l }
     ensures { OfEach frame (asking_series point.0 kind area partner) l (λ d. Fits d result.effect × Answered d (activates point.0 kind area partner day.0) result.answer (changed_by d result.effect)) }
 {
-    let v = activate_ruling(frame, l, point, kind, area, partner, day);
-    match v {
-        Ruling::Refuse(c) => refuse(frame, c),
-        Ruling::Fine => {
+    match activate_ruling(frame, l, point, kind, area, partner, day) {
+        Err(cause) => refuse(frame, cause),
+        Ok(()) => {
             let p = active_record(kind, area, partner, day);
             accept(put_point(frame, point, p, day))
         }
@@ -68,7 +66,6 @@ pub fn activate(d: Desk, point: PointNo, kind: u64, area: u64, partner: u64, day
     ensures { Answered d (activates point.0 kind area partner day.0) result.answer result.desk }
 {
     let l = look(d, asking_series(point, kind, area, partner));
-    let frame = d.frame;
-    let r = decide_activate(frame, l, point, kind, area, partner, day);
+    let r = decide_activate(d.frame, l, point, kind, area, partner, day);
     outcome(d, r)
 }

@@ -15,25 +15,33 @@ ghost use Rattle.checks.specs.Lent.{with_book_length};
 use amend::delta::move_delta;
 use checks::decisions::{accept, at_work, outcome, refuse};
 use checks::looks::{asking_nothing, look};
-use checks::rules::or_if;
+use checks::rules::refuse_if;
 use checks::{Decided, Look, Outcome};
-use model::{Cause, Ruling};
+use model::Cause;
 use quantity::Day;
 use quantity::limits::{day_ok, delta_ok, group_ok};
 use state::changes::put_group;
 use state::groups::sets_both;
 use state::{Desk, Effect, Frame};
 
-pub fn assign_ruling(frame: Frame, l: Look, size: u64, area: u64, group: u64, day: Day) -> Ruling
+#[tactic(auto, unfolding(model::specs::Step::refusal_by, model::specs::Causes::first_of, model::specs::Causes::or_if, model::specs::Causes::other_lengths, quantity::specs::Lists::fold))]
+pub fn assign_ruling(
+    frame: Frame,
+    l: Look,
+    size: u64,
+    area: u64,
+    group: u64,
+    day: Day,
+) -> Result<(), Cause>
     ensures { OfEach frame asking_nothing l (λ d. (n : Lengths) → result ≡ refusal_by d (telling (with_book_length n size) (assigns area group day.0))) }
 {
     let opening = frame.opening;
-    let v0 = at_work(l.valid, opening);
-    let v1 = or_if(v0, size != opening.book, Cause::WrongLength);
+    at_work(l.valid, opening)?;
+    refuse_if(size != opening.book, Cause::WrongLength)?;
     let fits = delta_ok(area) & (group_ok(group) & day_ok(day));
-    let v2 = or_if(v1, !fits, Cause::BadField);
-    let v3 = or_if(v2, day.0 < frame.day.0, Cause::PastDay);
-    or_if(v3, opening.correction.0 < day.0, Cause::TooLate)
+    refuse_if(!fits, Cause::BadField)?;
+    refuse_if(day.0 < frame.day.0, Cause::PastDay)?;
+    refuse_if(opening.correction.0 < day.0, Cause::TooLate)
 }
 
 // The book and the desk after an assignment that is not refused.
@@ -43,10 +51,15 @@ fn assigned(frame: Frame, area: u64, group: u64, day: Day, book: &mut [u64]) -> 
     requires book_len { length book.old ≡ book_rows * frame.opening.quarters }
     ensures { (e : Desk) → let d = with_frame e frame in Fits d result × ((s : Stores) → IsBookStep (granting d (with_book s book.old) (assigns area group day.0)) Accepted (changed_by d result) book.new) }
 {
-    let opening = frame.opening;
-    let groups = frame.groups;
-    let both = sets_both(opening, day);
-    move_delta(both, area, group, groups, opening.quarters as usize, book);
+    let both = sets_both(frame.opening, day);
+    move_delta(
+        both,
+        area,
+        group,
+        frame.groups,
+        frame.opening.quarters as usize,
+        book,
+    );
     put_group(frame, area, group, day)
 }
 
@@ -62,10 +75,9 @@ pub fn decide_assign(
     requires { Seen frame asking_nothing l }
     ensures { OfEach frame asking_nothing l (λ d. Fits d result.effect × BookStepped d (assigns area group day.0) book.old result.answer (changed_by d result.effect) book.new) }
 {
-    let v = assign_ruling(frame, l, book.len() as u64, area, group, day);
-    match v {
-        Ruling::Refuse(c) => refuse(frame, c),
-        Ruling::Fine => accept(assigned(frame, area, group, day, book)),
+    match assign_ruling(frame, l, book.len() as u64, area, group, day) {
+        Err(cause) => refuse(frame, cause),
+        Ok(()) => accept(assigned(frame, area, group, day, book)),
     }
 }
 
@@ -73,7 +85,6 @@ pub fn assign(d: Desk, area: u64, group: u64, day: Day, book: &mut [u64]) -> Out
     ensures { BookStepped d (assigns area group day.0) book.old result.answer result.desk book.new }
 {
     let l = look(d, asking_nothing());
-    let frame = d.frame;
-    let r = decide_assign(frame, l, area, group, day, book);
+    let r = decide_assign(d.frame, l, area, group, day, book);
     outcome(d, r)
 }

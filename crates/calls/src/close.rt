@@ -10,9 +10,9 @@ ghost use Rattle.checks.specs.Stepped.{Answered};
 
 use checks::decisions::{accept, at_work, outcome, refuse};
 use checks::looks::{asking_nothing, look};
-use checks::rules::or_if;
+use checks::rules::refuse_if;
 use checks::{Decided, Look, Outcome};
-use model::{Cause, Ruling};
+use model::Cause;
 use quantity::Day;
 use quantity::limits::{day_ok, run_ok};
 use state::changes::close_run;
@@ -22,9 +22,11 @@ use state::{Desk, Frame, Opening, Runs};
 pub fn deadline_of(opening: Opening, run: u64) -> Day
     ensures { result.0 ≡ deadline opening run }
 {
-    let clearing = opening.clearing;
-    let correction = opening.correction;
-    if run == 1 { clearing } else { correction }
+    if run == 1 {
+        opening.clearing
+    } else {
+        opening.correction
+    }
 }
 
 // The flag of a run.
@@ -34,28 +36,26 @@ pub fn flag_of(flags: Runs, run: u64) -> bool
     if run == 1 { flags.first } else { flags.second }
 }
 
-pub fn close_ruling(frame: Frame, l: Look, run: u64, day: Day) -> Ruling
+#[tactic(auto, unfolding(model::specs::Step::refusal_by, model::specs::Causes::first_of, model::specs::Causes::or_if, quantity::specs::Lists::fold))]
+pub fn close_ruling(frame: Frame, l: Look, run: u64, day: Day) -> Result<(), Cause>
     ensures { OfEach frame asking_nothing l (λ d. (n : Lengths) → result ≡ refusal_by d (telling n (closes run day.0))) }
 {
-    let opening = frame.opening;
-    let closed = frame.closed;
-    let last = deadline_of(opening, run);
-    let v0 = at_work(l.valid, opening);
-    let v1 = or_if(v0, !(run_ok(run) & day_ok(day)), Cause::BadField);
-    let v2 = or_if(v1, day.0 < frame.day.0, Cause::PastDay);
-    let v3 = or_if(v2, day.0 <= last.0, Cause::CloseTooEarly);
-    let v4 = or_if(v3, flag_of(closed, run), Cause::AlreadyClosed);
-    or_if(v4, (run == 2) & !closed.first, Cause::FirstRunOpen)
+    let last = deadline_of(frame.opening, run);
+    at_work(l.valid, frame.opening)?;
+    refuse_if(!(run_ok(run) & day_ok(day)), Cause::BadField)?;
+    refuse_if(day.0 < frame.day.0, Cause::PastDay)?;
+    refuse_if(day.0 <= last.0, Cause::CloseTooEarly)?;
+    refuse_if(flag_of(frame.closed, run), Cause::AlreadyClosed)?;
+    refuse_if((run == 2) & !frame.closed.first, Cause::FirstRunOpen)
 }
 
 // What is decided, by the desk's frame and one look at it.
 pub fn decide_close(frame: Frame, l: Look, run: u64, day: Day) -> Decided
     ensures { OfEach frame asking_nothing l (λ d. Fits d result.effect × Answered d (closes run day.0) result.answer (changed_by d result.effect)) }
 {
-    let v = close_ruling(frame, l, run, day);
-    match v {
-        Ruling::Refuse(c) => refuse(frame, c),
-        Ruling::Fine => accept(close_run(frame, run, day)),
+    match close_ruling(frame, l, run, day) {
+        Err(cause) => refuse(frame, cause),
+        Ok(()) => accept(close_run(frame, run, day)),
     }
 }
 
@@ -63,7 +63,6 @@ pub fn close(d: Desk, run: u64, day: Day) -> Outcome
     ensures { Answered d (closes run day.0) result.answer result.desk }
 {
     let l = look(d, asking_nothing());
-    let frame = d.frame;
-    let r = decide_close(frame, l, run, day);
+    let r = decide_close(d.frame, l, run, day);
     outcome(d, r)
 }

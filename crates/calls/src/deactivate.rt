@@ -10,27 +10,24 @@ ghost use Rattle.checks.specs.Stepped.{Answered};
 use checks::decisions::{accept, at_work, outcome, refuse};
 use checks::looks::{asking_versions, look};
 use checks::points::is_active;
-use checks::rules::or_if;
+use checks::rules::refuse_if;
 use checks::{Decided, Look, Outcome};
-use model::{Cause, Ruling};
+use model::Cause;
 use quantity::limits::{day_ok, point_ok};
 use quantity::{Day, PointNo, Version};
 use state::changes::put_point;
 use state::{Desk, Frame, PointRecord, PointState};
 
-fn deactivate_ruling(frame: Frame, l: Look, point: PointNo, day: Day) -> Ruling
+#[tactic(auto, unfolding(model::specs::Step::refusal_by, model::specs::Causes::first_of, model::specs::Causes::or_if, quantity::specs::Lists::fold))]
+fn deactivate_ruling(frame: Frame, l: Look, point: PointNo, day: Day) -> Result<(), Cause>
     ensures { OfEach frame (asking_versions point.0 0) l (λ d. (n : Lengths) → result ≡ refusal_by d (telling n (deactivates point.0 day.0))) }
 {
-    let opening = frame.opening;
-    let here = l.here;
-    let survey = l.survey;
-    let highest = survey.highest;
-    let v0 = at_work(l.valid, opening);
-    let v1 = or_if(v0, !(point_ok(point) & day_ok(day)), Cause::BadField);
-    let v2 = or_if(v1, day.0 < frame.day.0, Cause::PastDay);
-    let v3 = or_if(v2, opening.correction.0 < day.0, Cause::AfterCorrection);
-    let v4 = or_if(v3, !is_active(here), Cause::NotActive);
-    or_if(v4, highest.0 != 0, Cause::HasVersion)
+    at_work(l.valid, frame.opening)?;
+    refuse_if(!(point_ok(point) & day_ok(day)), Cause::BadField)?;
+    refuse_if(day.0 < frame.day.0, Cause::PastDay)?;
+    refuse_if(frame.opening.correction.0 < day.0, Cause::AfterCorrection)?;
+    refuse_if(!is_active(l.here), Cause::NotActive)?;
+    refuse_if(l.survey.highest.0 != 0, Cause::HasVersion)
 }
 
 // What is decided, by the desk's frame and one look at it.
@@ -38,10 +35,9 @@ pub fn decide_deactivate(frame: Frame, l: Look, point: PointNo, day: Day) -> Dec
     requires { Seen frame (asking_versions point.0 0) l }
     ensures { OfEach frame (asking_versions point.0 0) l (λ d. Fits d result.effect × Answered d (deactivates point.0 day.0) result.answer (changed_by d result.effect)) }
 {
-    let v = deactivate_ruling(frame, l, point, day);
-    match v {
-        Ruling::Refuse(c) => refuse(frame, c),
-        Ruling::Fine => {
+    match deactivate_ruling(frame, l, point, day) {
+        Err(cause) => refuse(frame, cause),
+        Ok(()) => {
             let free = PointRecord {
                 state: PointState::Free,
             };
@@ -54,7 +50,6 @@ pub fn deactivate(d: Desk, point: PointNo, day: Day) -> Outcome
     ensures { Answered d (deactivates point.0 day.0) result.answer result.desk }
 {
     let l = look(d, asking_versions(point, Version(0)));
-    let frame = d.frame;
-    let r = decide_deactivate(frame, l, point, day);
+    let r = decide_deactivate(d.frame, l, point, day);
     outcome(d, r)
 }

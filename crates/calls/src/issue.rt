@@ -10,35 +10,32 @@ ghost use Rattle.checks.specs.Stepped.{Answered};
 use crate::close::flag_of;
 use checks::decisions::{accept, at_work, outcome, refuse};
 use checks::looks::{asking_nothing, look};
-use checks::rules::or_if;
+use checks::rules::refuse_if;
 use checks::{Decided, Look, Outcome};
-use model::{Cause, Ruling};
+use model::Cause;
 use quantity::Day;
 use quantity::limits::{day_ok, run_ok};
 use state::changes::issue_run;
 use state::{Desk, Frame};
 
-pub fn issue_ruling(frame: Frame, l: Look, run: u64, day: Day) -> Ruling
+#[tactic(auto, unfolding(model::specs::Step::refusal_by, model::specs::Causes::first_of, model::specs::Causes::or_if, quantity::specs::Lists::fold))]
+pub fn issue_ruling(frame: Frame, l: Look, run: u64, day: Day) -> Result<(), Cause>
     ensures { OfEach frame asking_nothing l (λ d. (n : Lengths) → result ≡ refusal_by d (telling n (issues run day.0))) }
 {
-    let opening = frame.opening;
-    let closed = frame.closed;
-    let issued = frame.issued;
-    let v0 = at_work(l.valid, opening);
-    let v1 = or_if(v0, !(run_ok(run) & day_ok(day)), Cause::BadField);
-    let v2 = or_if(v1, day.0 < frame.day.0, Cause::PastDay);
-    let v3 = or_if(v2, !flag_of(closed, run), Cause::NotClosed);
-    or_if(v3, flag_of(issued, run), Cause::AlreadyIssued)
+    at_work(l.valid, frame.opening)?;
+    refuse_if(!(run_ok(run) & day_ok(day)), Cause::BadField)?;
+    refuse_if(day.0 < frame.day.0, Cause::PastDay)?;
+    refuse_if(!flag_of(frame.closed, run), Cause::NotClosed)?;
+    refuse_if(flag_of(frame.issued, run), Cause::AlreadyIssued)
 }
 
 // What is decided, by the desk's frame and one look at it.
 pub fn decide_issue(frame: Frame, l: Look, run: u64, day: Day) -> Decided
     ensures { OfEach frame asking_nothing l (λ d. Fits d result.effect × Answered d (issues run day.0) result.answer (changed_by d result.effect)) }
 {
-    let v = issue_ruling(frame, l, run, day);
-    match v {
-        Ruling::Refuse(c) => refuse(frame, c),
-        Ruling::Fine => accept(issue_run(frame, run, day)),
+    match issue_ruling(frame, l, run, day) {
+        Err(cause) => refuse(frame, cause),
+        Ok(()) => accept(issue_run(frame, run, day)),
     }
 }
 
@@ -46,7 +43,6 @@ pub fn issue(d: Desk, run: u64, day: Day) -> Outcome
     ensures { Answered d (issues run day.0) result.answer result.desk }
 {
     let l = look(d, asking_nothing());
-    let frame = d.frame;
-    let r = decide_issue(frame, l, run, day);
+    let r = decide_issue(d.frame, l, run, day);
     outcome(d, r)
 }

@@ -10,30 +10,28 @@ ghost use Rattle.checks.specs.Lent.{sizes};
 use checks::decisions::{accept, outcome, refuse};
 use checks::limits::{groups_ok, opening_ok};
 use checks::looks::is_open;
-use checks::rules::or_if;
+use checks::rules::refuse_if;
 use checks::{Decided, Outcome};
-use model::{Cause, Ruling};
+use model::Cause;
 use quantity::Day;
 use quantity::limits::DELTAS;
 use state::changes::open_desk;
 use state::{Desk, Frame, Opening};
 
 // It checks 6, then 4, and never cause 1.
-pub fn open_ruling(frame: Frame, o: Opening, groups: [u64; DELTAS as usize]) -> Ruling
+#[tactic(auto, unfolding(model::specs::Step::refusal_by, model::specs::Causes::first_of, model::specs::Causes::or_if, quantity::specs::Lists::fold))]
+pub fn open_ruling(frame: Frame, o: Opening, groups: [u64; DELTAS as usize]) -> Result<(), Cause>
     ensures { (d : Desk) → result ≡ refusal_by (with_frame d frame) (telling (sizes o.values o.book o.log o.schedules) (opens o.quarters o.first.0 o.clearing.0 o.correction.0 groups)) }
 {
-    let opening = frame.opening;
-    let v = or_if(Ruling::Fine, is_open(opening), Cause::OpenAgain);
-    or_if(v, !(opening_ok(o) & groups_ok(groups)), Cause::BadOpening)
+    refuse_if(is_open(frame.opening), Cause::OpenAgain)?;
+    refuse_if(!(opening_ok(o) & groups_ok(groups)), Cause::BadOpening)
 }
 
 // All numbers 0.
 pub fn clear(store: &mut [u64])
     ensures { store.new ≡ replicate (length store.old) 0 }
 {
-    for i in 0..store.len() {
-        store[i] = 0;
-    }
+    store.fill(0);
 }
 
 // What is decided, by the desk's frame; book and schedules are cleared where it is accepted.
@@ -61,10 +59,9 @@ pub fn decide_open(
         log: log.len() as u64,
         schedules: schedules.len() as u64,
     };
-    let v = open_ruling(frame, o, groups);
-    match v {
-        Ruling::Refuse(c) => refuse(frame, c),
-        Ruling::Fine => {
+    match open_ruling(frame, o, groups) {
+        Err(cause) => refuse(frame, cause),
+        Ok(()) => {
             clear(book);
             clear(schedules);
             accept(open_desk(o, groups))
@@ -86,9 +83,8 @@ pub fn open(
 ) -> Outcome
     ensures { WholeStepped d (opens quarters first.0 clearing.0 correction.0 groups) (stores_of values.now book.old log.now schedules.old) result.answer result.desk (stores_of values.now book.new log.now schedules.new) }
 {
-    let frame = d.frame;
     let r = decide_open(
-        frame, quarters, first, clearing, correction, groups, values, book, log, schedules,
+        d.frame, quarters, first, clearing, correction, groups, values, book, log, schedules,
     );
     outcome(d, r)
 }

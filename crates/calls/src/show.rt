@@ -8,41 +8,36 @@ ghost use Rattle.checks.specs.Lent.{with_book_length};
 use book::place::row_start;
 use checks::decisions::at_work;
 use checks::looks::valid;
-use checks::rules::or_if;
-use model::{Answer, Cause, Ruling};
+use checks::rules::refuse_if;
+use model::{Answer, Cause};
 use quantity::limits::{group_ok, run_ok};
 use state::Desk;
 
-pub fn show_ruling(d: Desk, size: u64, run: u64, group: u64) -> Ruling
+#[tactic(auto, unfolding(model::specs::Step::refusal_by, model::specs::Causes::first_of, model::specs::Causes::or_if, model::specs::Causes::other_lengths, quantity::specs::Lists::fold))]
+pub fn show_ruling(d: Desk, size: u64, run: u64, group: u64) -> Result<(), Cause>
     ensures { (n : Lengths) → result ≡ refusal_by d (telling (with_book_length n size) (shows run group)) }
 {
-    let frame = d.frame;
-    let opening = frame.opening;
-    let v0 = at_work(valid(d), opening);
-    let v1 = or_if(v0, size != opening.book, Cause::WrongLength);
-    or_if(v1, !(run_ok(run) & group_ok(group)), Cause::BadField)
+    at_work(valid(d), d.frame.opening)?;
+    refuse_if(size != d.frame.opening.book, Cause::WrongLength)?;
+    refuse_if(!(run_ok(run) & group_ok(group)), Cause::BadField)
 }
 
 pub fn show_number(d: Desk, run: u64, group: u64, book: &[u64]) -> Answer
     ensures { (s : Stores) → result ≡ (step d (lent (shows run group) (with_book s book.now))).answer }
 {
-    let v = show_ruling(d, book.len() as u64, run, group);
-    match v {
-        Ruling::Refuse(c) => Answer::Refused(c),
-        Ruling::Fine => Answer::Accepted,
+    match show_ruling(d, book.len() as u64, run, group) {
+        Err(cause) => Answer::Refused(cause),
+        Ok(()) => Answer::Accepted,
     }
 }
 
 pub fn show_row(d: Desk, run: u64, group: u64, book: &[u64]) -> &[u64]
     ensures { (s : Stores) → result.now ≡ (step d (lent (shows run group) (with_book s book.now))).part }
 {
-    let v = show_ruling(d, book.len() as u64, run, group);
-    let Ruling::Fine = v else {
+    let Ok(()) = show_ruling(d, book.len() as u64, run, group) else {
         return &book[0..0];
     };
-    let frame = d.frame;
-    let opening = frame.opening;
-    let q = opening.quarters as usize;
+    let q = d.frame.opening.quarters as usize;
     let start = row_start(run as usize, (group - 1) as usize, q);
     &book[start..start + q]
 }

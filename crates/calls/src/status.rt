@@ -7,41 +7,31 @@ ghost use Rattle.checks.specs.Look.{OfEach};
 ghost use Rattle.checks.specs.Stepped.{Answered};
 
 use checks::decisions::at_work;
-use checks::looks::{absent, asking_versions, look};
+use checks::looks::{asking_versions, look};
 use checks::points::is_active;
-use checks::rules::or_if;
+use checks::rules::refuse_if;
 use checks::{Look, Outcome};
-use model::{Answer, Cause, Ruling};
+use model::{Answer, Cause};
 use quantity::limits::{point_ok, version_ok};
 use quantity::{PointNo, Version};
-use state::{Desk, Frame, Held};
+use state::{Desk, Frame, HeldVersion};
 
-fn status_ruling(frame: Frame, l: Look, point: PointNo, version: Version) -> Ruling
+#[tactic(auto, unfolding(model::specs::Step::refusal_by, model::specs::Causes::first_of, model::specs::Causes::or_if, model::specs::Causes::is_absent, quantity::specs::Lists::fold))]
+fn status_ruling(frame: Frame, l: Look, point: PointNo, version: Version) -> Result<(), Cause>
     ensures { OfEach frame (asking_versions point.0 version.0) l (λ d. (n : Lengths) → result ≡ refusal_by d (telling n (asks point.0 version.0))) }
 {
-    let opening = frame.opening;
-    let here = l.here;
-    let survey = l.survey;
-    let held = survey.held;
-    let v0 = at_work(l.valid, opening);
-    let v1 = or_if(
-        v0,
-        !(point_ok(point) & version_ok(version)),
-        Cause::BadField,
-    );
-    let v2 = or_if(v1, !is_active(here), Cause::NotActive);
-    or_if(v2, absent(held), Cause::NoVersion)
+    at_work(l.valid, frame.opening)?;
+    refuse_if(!(point_ok(point) & version_ok(version)), Cause::BadField)?;
+    refuse_if(!is_active(l.here), Cause::NotActive)?;
+    refuse_if(l.survey.held.is_none(), Cause::NoVersion)
 }
 
-pub fn status_answer(held: Held) -> Answer
+pub fn status_answer(held: Option<HeldVersion>) -> Answer
     ensures { result ≡ status_answer held }
 {
     match held {
-        Held::Absent => Answer::Refused(Cause::NoVersion),
-        Held::Has { at: _, record } => {
-            let status = record.status;
-            Answer::HasStatus(status)
-        }
+        None => Answer::Refused(Cause::NoVersion),
+        Some(found) => Answer::HasStatus(found.record.status),
     }
 }
 
@@ -49,17 +39,13 @@ pub fn status(d: Desk, point: PointNo, version: Version) -> Outcome
     ensures { Answered d (asks point.0 version.0) result.answer result.desk }
 {
     let l = look(d, asking_versions(point, version));
-    let survey = l.survey;
-    let held = survey.held;
-    let frame = d.frame;
-    let v = status_ruling(frame, l, point, version);
-    match v {
-        Ruling::Refuse(c) => Outcome {
-            answer: Answer::Refused(c),
+    match status_ruling(d.frame, l, point, version) {
+        Err(cause) => Outcome {
+            answer: Answer::Refused(cause),
             desk: d,
         },
-        Ruling::Fine => {
-            let answer = status_answer(held);
+        Ok(()) => {
+            let answer = status_answer(l.survey.held);
             Outcome { answer, desk: d }
         }
     }

@@ -1,11 +1,11 @@
 -- The table of causes and the step, as a call's proof goes through them: check by check, then refused or granted. Assumes nothing.
 use Prim.Native.Nat.{ℕ, ◌*◌}
 use mathlib.Core.Path.{◌≡◌, refl, sym, ◌∙◌}
-use mathlib.Core.Bool.{Bool, true, false, not, ◌&&◌, ◌||◌, or-false}
+use mathlib.Core.Bool.{true, false, not, ◌&&◌, ◌||◌, or-false}
 use mathlib.Core.List.{List, [], ◌∷◌}
 use borrow.Author.Tests.{eqb-true, not-false}
 use lib.Dec.{eqb}
-use Rattle.state.specs.Desk.{is_open}
+use Rattle.std.specs.Prelude.{Ok, Err}
 use Rattle.quantity.specs.Lists.{fold}
 use Rattle.quantity.proofs.Tests.{and-left, or-left, or-right}
 use Rattle.state.specs.Valid.{opening_ok, valid_desk}
@@ -14,15 +14,13 @@ use Rattle.state.specs.declared.Effect.{Effect}
 use Rattle.state.specs.declared.Opening.{Opening}
 use Rattle.state.specs.Effect.{changed_by, unchanged_in, Fits}
 use Rattle.model.specs.Call.{Call, Stores, Told, Lengths, the_book, the_schedules, book_and_schedules, lengths_of, told, telling}
-use Rattle.model.specs.Causes.{Rule, terms, rule, rules, or_if, or_rule, first_of, other_lengths, opens_ok}
+use Rattle.model.specs.Causes.{Rule, terms, rule, rules, or_if, or_rule, first_of, other_lengths, opens_ok, Ruling}
 use Rattle.model.specs.Step.{answering, accept, refusal_by, granting, decided, step}
 use Rattle.model.specs.View.{view_of}
 use Rattle.model.specs.declared.Answer.{Answer}
 use Rattle.model.specs.declared.Answer.TheVariants.{Accepted, Refused}
 use Rattle.model.specs.declared.Cause.{Cause}
 use Rattle.model.specs.declared.Cause.TheVariants.{NotOpen}
-use Rattle.model.specs.declared.Ruling.{Ruling}
-use Rattle.model.specs.declared.Ruling.TheVariants.{Fine, Refuse}
 use Rattle.checks.specs.Lent.{sizes}
 use Rattle.checks.specs.declared.Decided.{Decided}
 use Rattle.checks.specs.Stepped.{IsAnswer, IsBookStep, IsStep, IsScheduleStep, IsReport, IsWholeStep, Answered, lent}
@@ -30,45 +28,21 @@ use Rattle.model.specs.Laws.{Passed}
 use Rattle.model.proofs.Invariant.{book-is, schedules-is}
 use Rattle.model.proofs.Rules.{passed}
 
--- one check more: the verdict so far, and the test, as the table has them
-pub checked : {v w r : Ruling} {t s : Bool} (c : Cause) → r ≡ or_if v t c → v ≡ w → t ≡ s → r ≡ or_if w s c
-checked c e h k = cc
-
--- cause 1, by what one look found
-pub begun : (d : Desk) {r : Ruling} {t : Bool} → r ≡ or_if (or_if Fine (not t) NotOpen) (not (is_open d.frame.opening)) NotOpen → t ≡ valid_desk d
-    → r ≡ or_if (or_if Fine (not (valid_desk d)) NotOpen) (not (is_open d.frame.opening)) NotOpen
-begun d e h = cc
-
--- open is not asked for cause 1
-pub unasked : Fine ≡ or_if Fine false NotOpen
-unfolding or_if
-unasked = refl
-
 -- a call that is not refused has passed cause 1 and its table
-pub allowed : (d : Desk) (t : Told) → refusal_by d t ≡ Fine
+pub allowed : (d : Desk) (t : Told) → refusal_by d t ≡ Ok tt
     → Passed (rule (not (terms t.call).opening && not (valid_desk d)) NotOpen (rules (view_of d) t.lengths t.call))
 unfolding refusal_by
 allowed d t e = passed _ e
 
 -- what is refused stays refused
-stays : (x : Cause) (l : List Rule) → fold or_rule (Refuse x) l ≡ Refuse x
+stays : (x : Cause) (l : List Rule) → fold or_rule (Err x) l ≡ Err x
 unfolding fold or_if
 stays x [] = refl
 stays x (r ∷ l) = stays x l
 
--- a check below others, l, whose test agrees with the table's where the desk is within its limits: on another cause 1 is said whatever it says
-pub checked-within : (d : Desk) (l : List Rule) {v r : Ruling} {t s : Bool} (c : Cause) → r ≡ or_if v t c → v ≡ fold or_rule (or_if Fine (not (valid_desk d)) NotOpen) l
-    → (valid_desk d ≡ true → t ≡ s) → r ≡ or_if (fold or_rule (or_if Fine (not (valid_desk d)) NotOpen) l) s c
-unfolding or_if
-checked-within d l {v = v} {r = r} {t = t} {s = s} c e h k = go (valid_desk d) k h
-  where
-    go : (b : Bool) → (b ≡ true → t ≡ s) → v ≡ fold or_rule (or_if Fine (not b) NotOpen) l → r ≡ or_if (fold or_rule (or_if Fine (not b) NotOpen) l) s c
-    go true k h = checked c e h (k refl)
-    go false k h = let g = h ∙ stays NotOpen l in rw (stays NotOpen l) (rw g at e)
-
 module _ (d : Desk) (t : Told) (asked : (terms t.call).opening ≡ false) where
   -- a desk outside its limits: cause 1
-  pub unfit : valid_desk d ≡ false → refusal_by d t ≡ Refuse NotOpen
+  pub unfit : valid_desk d ≡ false → refusal_by d t ≡ Err NotOpen
   unfolding refusal_by first_of fold or_if
   unfit e = rw (asked, e) (stays NotOpen (rules (view_of d) t.lengths t.call))
 
@@ -122,63 +96,63 @@ unmoved d h = (rw h.1 tt, (h.0, rw h.1))
 
 module _ (d : Desk) (c : Call) (s : Stores) {v : Ruling} (e : v ≡ refusal_by d (told (lent c s))) where
   -- a refused call changes nothing
-  pub refused : {x : Cause} → v ≡ Refuse x → step d (lent c s) ≡ answering (Refused x) d s
+  pub refused : {x : Cause} → v ≡ Err x → step d (lent c s) ≡ answering (Refused x) d s
   unfolding step decided
   refused h = rw (sym e ∙ h)
 
   -- a call that is not refused is granted
-  pub granted : v ≡ Fine → step d (lent c s) ≡ granting d s c
+  pub granted : v ≡ Ok tt → step d (lent c s) ≡ granting d s c
   unfolding step decided
   granted h = rw (sym e ∙ h)
 
   -- the same of a call that takes no store
-  pub answer-refused : {x : Cause} {a : Answer} {n : Desk} → v ≡ Refuse x → (a ≡ Refused x) × (n ≡ d) → IsAnswer (step d (lent c s)) a n
+  pub answer-refused : {x : Cause} {a : Answer} {n : Desk} → v ≡ Err x → (a ≡ Refused x) × (n ≡ d) → IsAnswer (step d (lent c s)) a n
   answer-refused h r = rw (refused h) (record { answered = r.0; held = r.1 })
 
-  pub answer-granted : {a : Answer} {n : Desk} → v ≡ Fine → IsAnswer (granting d s c) a n → IsAnswer (step d (lent c s)) a n
+  pub answer-granted : {a : Answer} {n : Desk} → v ≡ Ok tt → IsAnswer (granting d s c) a n → IsAnswer (step d (lent c s)) a n
   answer-granted h g = rw (granted h) g
 
   -- of one that takes the book
-  pub book-refused : {x : Cause} {a : Answer} {n : Desk} → v ≡ Refuse x → (a ≡ Refused x) × (n ≡ d) → IsBookStep (step d (lent c s)) a n s.book
+  pub book-refused : {x : Cause} {a : Answer} {n : Desk} → v ≡ Err x → (a ≡ Refused x) × (n ≡ d) → IsBookStep (step d (lent c s)) a n s.book
   book-refused h r = rw (refused h) (record { answered = r.0; held = r.1; booked = refl })
 
-  pub book-granted : {a : Answer} {n : Desk} {book : List ℕ} → v ≡ Fine → IsBookStep (granting d s c) a n book → IsBookStep (step d (lent c s)) a n book
+  pub book-granted : {a : Answer} {n : Desk} {book : List ℕ} → v ≡ Ok tt → IsBookStep (granting d s c) a n book → IsBookStep (step d (lent c s)) a n book
   book-granted h g = rw (granted h) g
 
   -- of one that takes values, book and log
-  pub all-refused : {x : Cause} {a : Answer} {n : Desk} → v ≡ Refuse x → (a ≡ Refused x) × (n ≡ d) → IsStep (step d (lent c s)) a n s.values s.book s.log
+  pub all-refused : {x : Cause} {a : Answer} {n : Desk} → v ≡ Err x → (a ≡ Refused x) × (n ≡ d) → IsStep (step d (lent c s)) a n s.values s.book s.log
   all-refused h r = rw (refused h) (record { answered = r.0; held = r.1; valued = refl; booked = refl; noted = refl })
 
-  pub all-granted : {a : Answer} {n : Desk} {values book log : List ℕ} → v ≡ Fine → IsStep (granting d s c) a n values book log → IsStep (step d (lent c s)) a n values book log
+  pub all-granted : {a : Answer} {n : Desk} {values book log : List ℕ} → v ≡ Ok tt → IsStep (granting d s c) a n values book log → IsStep (step d (lent c s)) a n values book log
   all-granted h g = rw (granted h) g
 
   -- of one that takes the schedules
-  pub schedule-refused : {x : Cause} {a : Answer} {n : Desk} → v ≡ Refuse x → (a ≡ Refused x) × (n ≡ d) → IsScheduleStep (step d (lent c s)) a n s.schedules
+  pub schedule-refused : {x : Cause} {a : Answer} {n : Desk} → v ≡ Err x → (a ≡ Refused x) × (n ≡ d) → IsScheduleStep (step d (lent c s)) a n s.schedules
   schedule-refused h r = rw (refused h) (record { answered = r.0; held = r.1; planned = refl })
 
-  pub schedule-granted : {a : Answer} {n : Desk} {schedules : List ℕ} → v ≡ Fine → IsScheduleStep (granting d s c) a n schedules → IsScheduleStep (step d (lent c s)) a n schedules
+  pub schedule-granted : {a : Answer} {n : Desk} {schedules : List ℕ} → v ≡ Ok tt → IsScheduleStep (granting d s c) a n schedules → IsScheduleStep (step d (lent c s)) a n schedules
   schedule-granted h g = rw (granted h) g
 
   -- of one that gives two sums
-  pub report-refused : {x : Cause} {a : Answer} → v ≡ Refuse x → a ≡ Refused x → IsReport (step d (lent c s)) a 0 0
+  pub report-refused : {x : Cause} {a : Answer} → v ≡ Err x → a ≡ Refused x → IsReport (step d (lent c s)) a 0 0
   report-refused h r = rw (refused h) (record { answered = r; over = refl; under = refl })
 
-  pub report-granted : {a : Answer} {surplus shortfall : ℕ} → v ≡ Fine → IsReport (granting d s c) a surplus shortfall → IsReport (step d (lent c s)) a surplus shortfall
+  pub report-granted : {a : Answer} {surplus shortfall : ℕ} → v ≡ Ok tt → IsReport (granting d s c) a surplus shortfall → IsReport (step d (lent c s)) a surplus shortfall
   report-granted h g = rw (granted h) g
 
   -- of one that takes every store
-  pub whole-refused : {x : Cause} {a : Answer} {n : Desk} → v ≡ Refuse x → (a ≡ Refused x) × (n ≡ d) → IsWholeStep (step d (lent c s)) a n s
+  pub whole-refused : {x : Cause} {a : Answer} {n : Desk} → v ≡ Err x → (a ≡ Refused x) × (n ≡ d) → IsWholeStep (step d (lent c s)) a n s
   whole-refused h r = rw (refused h) (record { answered = r.0; held = r.1; left = refl })
 
-  pub whole-granted : {a : Answer} {n : Desk} {u : Stores} → v ≡ Fine → IsWholeStep (granting d s c) a n u → IsWholeStep (step d (lent c s)) a n u
+  pub whole-granted : {a : Answer} {n : Desk} {u : Stores} → v ≡ Ok tt → IsWholeStep (granting d s c) a n u → IsWholeStep (step d (lent c s)) a n u
   whole-granted h g = rw (granted h) g
 
 -- what is decided of a call that takes no store, by a ruling that says what the table says
 module _ (d : Desk) (c : Call) {v : Ruling} (e : (n : Lengths) → v ≡ refusal_by d (telling n c)) {r : Decided} where
-  pub decides-refused : {x : Cause} → v ≡ Refuse x → (r.answer ≡ Refused x) × (r.effect ≡ unchanged_in d.frame)
+  pub decides-refused : {x : Cause} → v ≡ Err x → (r.answer ≡ Refused x) × (r.effect ≡ unchanged_in d.frame)
       → Fits d r.effect × Answered d c r.answer (changed_by d r.effect)
   decides-refused h z = let u = unmoved d z in (u.0, λ s. answer-refused d c s (e (lengths_of s)) h u.1)
 
-  pub decides-granted : {f : Effect} {n : Desk} → v ≡ Fine → (r.answer ≡ Accepted) × (r.effect ≡ f) → Fits d f × (changed_by d f ≡ n) → ((s : Stores) → granting d s c ≡ accept n s)
+  pub decides-granted : {f : Effect} {n : Desk} → v ≡ Ok tt → (r.answer ≡ Accepted) × (r.effect ≡ f) → Fits d f × (changed_by d f ≡ n) → ((s : Stores) → granting d s c ≡ accept n s)
       → Fits d r.effect × Answered d c r.answer (changed_by d r.effect)
   decides-granted h a p g = (rw a.1 p.0, λ s. answer-granted d c s (e (lengths_of s)) h (rw (g s) (record { answered = a.0; held = rw a.1 p.1 })))

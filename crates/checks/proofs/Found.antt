@@ -9,6 +9,7 @@ use borrow.Author.Tests.{ltb-true, ltb-false, le-leb, leb-false}
 use lib.Dec.{ltb}
 use lib.ListN.{length, take, get_or}
 use lib.Seq.{length-take-le}
+use Rattle.std.specs.Prelude.{Option, Some, None}
 use Rattle.quantity.specs.Limits.{point_ok}
 use Rattle.quantity.proofs.Tests.{by-test, within-low, within-high}
 use Rattle.state.proofs.Lists.{walk-none, walk-more, take-past}
@@ -18,8 +19,7 @@ use Rattle.state.specs.Point.{free_point, point_at}
 use Rattle.state.specs.Selection.{raise_if, best, version_of, is_counted}
 use Rattle.checks.specs.Survey.{place_of, record_at, state_in, nothing_found, survey_step, reading, Surveyed}
 use Rattle.state.specs.Version.{empty_version, is_at, or_held, held}
-use Rattle.state.specs.declared.Held.{Held}
-use Rattle.state.specs.declared.Held.TheVariants.{Absent, Has}
+use Rattle.state.specs.declared.HeldVersion.{HeldVersion}
 use Rattle.state.specs.declared.PointRecord.{PointRecord}
 use Rattle.state.specs.declared.PointState.TheVariants.{Free}
 use Rattle.state.specs.declared.Selection.TheVariants.{None}
@@ -31,7 +31,7 @@ module _ (p x : ℕ) (vs : List VersionRecord) where
   unfolding best held
   found-none =
       record {
-        held = walk-none (or_held p x) Absent vs;
+        held = walk-none (or_held p x) None vs;
         highest = ap version_of (walk-none (raise_if (is_at p)) None vs);
         first = walk-none (raise_if (is_counted 1 p)) None vs;
         second = walk-none (raise_if (is_counted 2 p)) None vs;
@@ -44,7 +44,7 @@ module _ (p x : ℕ) (vs : List VersionRecord) where
   found-more s i h f =
       let v = get_or vs i empty_version in
       record {
-        held = rw f.held (walk-more (or_held p x) Absent vs i empty_version h);
+        held = rw f.held (walk-more (or_held p x) None vs i empty_version h);
         highest = sym (number-raised (best (is_at p) (take i vs)) s.highest (is_at p v) i v f.highest) ∙ ap version_of (walk-more (raise_if (is_at p)) None vs i empty_version h);
         first = rw f.first (walk-more (raise_if (is_counted 1 p)) None vs i empty_version h);
         second = rw f.second (walk-more (raise_if (is_counted 2 p)) None vs i empty_version h);
@@ -52,9 +52,9 @@ module _ (p x : ℕ) (vs : List VersionRecord) where
       }
 
 -- a record of another point: nothing is found in it
-other-held : (p x i : ℕ) (v : VersionRecord) (h : Held) → is_at p v ≡ false → h ≡ or_held p x h i v
-other-held p x i v Absent e = rw e
-other-held p x i v (Has j w) e = refl
+other-held : (p x i : ℕ) (v : VersionRecord) (h : Option HeldVersion) → is_at p v ≡ false → h ≡ or_held p x h i v
+other-held p x i v None e = rw e
+other-held p x i v (Some h) e = refl
 
 other-point : (p x : ℕ) (s : Survey) (i : ℕ) (v : VersionRecord) → is_at p v ≡ false → s ≡ survey_step p x s i v
 other-point p x s i v e = let h = other-held p x i v s.held e in rw (← h, e)

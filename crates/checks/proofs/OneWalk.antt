@@ -8,10 +8,10 @@ use native.Mathlib.Omega.{arith}
 use borrow.Author.Tests.{eqb-true, eq-eqb}
 use lib.ListN.{length, take, length-take}
 use lib.Seq.{take_all, length-take-le, get_or-take}
+use Rattle.std.specs.Prelude.{Some, None}
 use Rattle.quantity.proofs.Tests.{and-left, and-right}
 use Rattle.state.specs.Selection.{best, version_of, Highest}
-use Rattle.state.specs.Version.{empty_version, record_at, is_at, is_version, held, HeldIn}
-use Rattle.state.specs.declared.Held.TheVariants.{Absent, Has}
+use Rattle.state.specs.Version.{empty_version, record_at, is_at, is_version, held, HeldIn, held_version}
 use Rattle.state.specs.declared.Selection.{Selection}
 use Rattle.state.specs.declared.Selection.TheVariants.{None, Selected}
 use Rattle.state.specs.declared.VersionRecord.{VersionRecord}
@@ -60,14 +60,14 @@ module _ (table : List VersionRecord) (count p x : ℕ) (long : length table ≡
   of-point i y r = let h = counted i r.held r.inside in (h, rw (there i h) (eq-eqb _ p r.of_point), rw (there i h) r.numbered)
 
   module _ (s : Survey) (f : Surveyed p x vs s) where
-    present : (i : ℕ) (v : VersionRecord) → held p x vs ≡ Has i v → Stands table count i p x × (record_at table i ≡ v)
+    present : (i : ℕ) (v : VersionRecord) → held p x vs ≡ Some (held_version i v) → Stands table count i p x × (record_at table i ≡ v)
     present i v e =
-        let k : HeldIn p x vs (length vs) (Has i v) = subst (HeldIn p x vs (length vs)) e (held-right p x vs) in
+        let k : HeldIn p x vs (length vs) (Some (held_version i v)) = subst (HeldIn p x vs (length vs)) e (held-right p x vs) in
         (stands i x k.within (eqb-true _ p (and-left (is_at p (record_at vs i)) _ k.found)) (eqb-true _ x (and-right (is_at p (record_at vs i)) _ k.found)), sym (there i k.within) ∙ k.here)
 
-    absent : held p x vs ≡ Absent → (i : ℕ) → Stands table count i p x → ⊥
+    absent : held p x vs ≡ None → (i : ℕ) → Stands table count i p x → ⊥
     absent e i r =
-        let k : HeldIn p x vs (length vs) Absent = subst (HeldIn p x vs (length vs)) e (held-right p x vs) in
+        let k : HeldIn p x vs (length vs) None = subst (HeldIn p x vs (length vs)) e (held-right p x vs) in
         let o = of-point i x r in
         let here : is_version p x (record_at vs i) ≡ true = rw o.1 (eq-eqb _ x o.2) in
         false≢true (sym (k i o.0) ∙ here)

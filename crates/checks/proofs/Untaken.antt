@@ -4,14 +4,13 @@ use mathlib.Core.Path.{◌≡◌, refl, sym, ap, ◌∙◌}
 use mathlib.Core.Bool.{Bool, true, false, true≢false}
 use mathlib.Core.List.{List}
 use lib.ListN.{length}
+use Rattle.std.specs.Prelude.{Ok, Err}
 use Rattle.state.specs.Desk.{open_desk}
 use Rattle.state.specs.declared.Desk.{Desk}
 use Rattle.model.specs.Call.{Call, opens, activates, deactivates, submits, notices, assigns, shows, asks, closes, issues, lodges, reports, Taken, every_store, all_but_schedules, the_book, the_schedules, no_store, Stores, Lengths, lengths_of, told, telling}
-use Rattle.model.specs.Causes.{takes, other_lengths, opening_by}
+use Rattle.model.specs.Causes.{takes, other_lengths, opening_by, Ruling}
 use Rattle.model.specs.Step.{with_book, with_schedules, step, granting, decided, refusal_by}
 use Rattle.model.specs.declared.Answer.{Answer}
-use Rattle.model.specs.declared.Ruling.{Ruling}
-use Rattle.model.specs.declared.Ruling.TheVariants.{Fine, Refuse}
 use Rattle.checks.specs.Stepped.{IsStep, IsBookStep, IsScheduleStep, IsAnswer, IsWholeStep, lent, storing}
 
 -- ---- it stays, and so does the opening
@@ -38,8 +37,8 @@ module _ (f : Stores → List ℕ) (t : Taken → Bool) (full : t every_store �
   step-keeps d s c e = go (refusal_by d (told (lent c s)))
     where
       go : (v : Ruling) → ((decided v d s c).desk.frame.opening ≡ d.frame.opening) × (f (decided v d s c).stores ≡ f s)
-      go Fine = granted-keeps d s c e
-      go (Refuse x) = (refl, refl)
+      go (Ok tt) = granted-keeps d s c e
+      go (Err x) = (refl, refl)
 
 module _ (d : Desk) (c : Call) (s : Stores) where
   pub values-kept : (takes c).values ≡ false → ((step d (lent c s)).desk.frame.opening ≡ d.frame.opening) × ((step d (lent c s)).stores.values ≡ s.values)
@@ -151,5 +150,5 @@ module _ (d : Desk) (s u : Stores) where
   unseen c a = rw (same-refusal c a) (go (refusal_by d (told (lent c u))))
     where
       go : (v : Ruling) → ((decided v d s c).answer ≡ (decided v d u c).answer) × ((decided v d s c).desk ≡ (decided v d u c).desk)
-      go Fine = same-granted c a
-      go (Refuse w) = (refl, refl)
+      go (Ok tt) = same-granted c a
+      go (Err w) = (refl, refl)

@@ -1,12 +1,11 @@
 -- What one point's record, a walk over the versions and one over the points tell, each part by its own definition.
-use Rattle.std.specs.Prelude.{ℕ, ◌-◌, ◌≡◌, cond, List, length, get_or}
+use Rattle.std.specs.Prelude.{ℕ, ◌-◌, ◌≡◌, cond, List, length, get_or, None}
 use Rattle.quantity.specs.Limits.{point_ok}
 use Rattle.quantity.specs.Lists.{all, any}
 use Rattle.state.specs.Point.{free_point, has_series}
 use Rattle.state.specs.Selection.{raise_if, highest, no_version, higher_of, is_counted, own}
 use Rattle.state.specs.Valid.{point_record_ok, version_record_ok}
 use Rattle.state.specs.Version.{is_at, or_held, held}
-use Rattle.state.specs.declared.Held.TheVariants.{Absent}
 use Rattle.state.specs.declared.PointRecord.{PointRecord}
 use Rattle.state.specs.declared.PointState.{PointState}
 use Rattle.state.specs.declared.PointState.TheVariants.{Free}
@@ -47,7 +46,7 @@ pub record TestedIn (rows point version : ℕ) (vs : List VersionRecord) (t : Te
 
 -- in no record
 abbrev pub nothing_found : Survey
-nothing_found = record { held = Absent; highest = no_version; first = None; second = None; read = 0 }
+nothing_found = record { held = None; highest = no_version; first = None; second = None; read = 0 }
 
 -- one record of the point more, at an index
 abbrev pub survey_step : (point version : ℕ) → Survey → (at : ℕ) → VersionRecord → Survey

@@ -1,7 +1,6 @@
 -- Document 02, Change 5, in its own numbers: what one walk over the version table gives.
-use Rattle.std.specs.Prelude.{ℕ, ◌≤◌, ◌<◌, ◌≡◌, true, List, [], map, ◌⊎◌, length}
-use Rattle.state.specs.Version.{record_at}
-use Rattle.state.specs.declared.Held.TheVariants.{Absent, Has}
+use Rattle.std.specs.Prelude.{ℕ, ◌≤◌, ◌<◌, ◌≡◌, true, List, [], map, ◌⊎◌, length, Some, None}
+use Rattle.state.specs.Version.{record_at, held_version}
 use Rattle.state.specs.declared.VersionRecord.{VersionRecord}
 use Rattle.model.specs.Agreement.{Chained, end, fresh}
 use Rattle.model.specs.Call.{Stores, Lent, told}
@@ -27,8 +26,8 @@ pub record Somewhere (table : List VersionRecord) (count point version : ℕ) : 
 -- "one pass is to give both, the highest as 0 without a version, for any table handed in. It also gives the number of records it read"
 pub record Walked (table : List VersionRecord) (count point version : ℕ) (s : Survey) : Type 0 where
   -- "a present version"
-  pub present : (i : ℕ) (v : VersionRecord) → s.held ≡ Has i v → Stands table count i point version × (record_at table i ≡ v)
-  pub absent : s.held ≡ Absent → (i : ℕ) → Stands table count i point version → ⊥
+  pub present : (i : ℕ) (v : VersionRecord) → s.held ≡ Some (held_version i v) → Stands table count i point version × (record_at table i ≡ v)
+  pub absent : s.held ≡ None → (i : ℕ) → Stands table count i point version → ⊥
   -- "the point's highest": none is above it, and it is one of them, or 0
   pub highest : (i x : ℕ) → Stands table count i point x → x ≤ s.highest.0
   pub reached : Somewhere table count point s.highest.0 ⊎ (s.highest.0 ≡ 0)

@@ -4,7 +4,6 @@
 pub mod decisions;
 pub mod limits;
 pub mod looks;
-pub mod numbers;
 pub mod picks;
 pub mod points;
 pub mod rules;
@@ -14,13 +13,13 @@ pub mod surveys;
 
 use model::Answer;
 use quantity::Version;
-use state::{Desk, Effect, Held, PointState, Selection};
+use state::{Desk, Effect, HeldVersion, PointState, Selection};
 
 // What one walk over the versions finds: the version asked for, and of the point asked for the highest version (0 without one), run 1's selection and
 // run 2's own; and how many records it read.
 #[derive(Clone, Copy)]
 pub struct Survey {
-    pub held: Held,
+    pub held: Option<HeldVersion>,
     pub highest: Version,
     pub first: Selection,
     pub second: Selection,

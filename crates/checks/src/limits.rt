@@ -13,32 +13,23 @@ use quantity::limits::{
 use quantity::{Day, PointNo};
 use state::{DeltaGroups, Frame, Opening, PointRecord, PointState, VersionRecord};
 
+#[tactic(auto, unfolding(state::specs::Point::series_ok))]
 pub fn series_ok(kind: u64, area: u64, partner: u64) -> bool
     ensures { result ≡ series_ok kind area partner }
 {
-    if kind == 1 {
-        return area_ok(area) & (partner < area);
+    match kind {
+        1 => area_ok(area) & (partner < area),
+        2 => area_ok(area) & group_ok(partner),
+        3 | 5 => area_ok(area) & (partner == 0),
+        4 => (area == 0) & group_ok(partner),
+        _ => false,
     }
-    if kind == 2 {
-        return area_ok(area) & group_ok(partner);
-    }
-    if kind == 3 {
-        return area_ok(area) & (partner == 0);
-    }
-    if kind == 4 {
-        return (area == 0) & group_ok(partner);
-    }
-    if kind == 5 {
-        return area_ok(area) & (partner == 0);
-    }
-    false
 }
 
 pub fn point_record_ok(p: PointRecord) -> bool
     ensures { result ≡ point_record_ok p }
 {
-    let s = p.state;
-    match s {
+    match p.state {
         PointState::Free => true,
         PointState::Active {
             since,
@@ -54,63 +45,54 @@ pub fn point_record_ok(p: PointRecord) -> bool
 pub fn version_record_ok(v: VersionRecord, rows: u64) -> bool
     ensures { result ≡ version_record_ok rows v }
 {
-    let version = v.version;
-    point_ok(PointNo(v.point.0 as u64)) & (version_ok(version) & ((v.row.0 as u64) < rows))
+    point_ok(PointNo(v.point.0 as u64)) & version_ok(v.version) & ((v.row.0 as u64) < rows)
 }
 
+#[tactic(auto, unfolding(state::specs::Valid::opening_ok))]
 pub fn opening_ok(o: Opening) -> bool
     ensures { result ≡ opening_ok o }
 {
-    let first = o.first;
-    let clearing = o.clearing;
-    let correction = o.correction;
-    if !quarters_ok(o.quarters) {
-        return false;
-    }
-    deadlines_ok(first, clearing, correction)
-        & ((o.book == BOOK_ROWS * o.quarters)
-            & ((o.log % 4 == 0) & (o.schedules == SCHEDULE_ROWS * o.quarters)))
+    quarters_ok(o.quarters)
+        && deadlines_ok(o.first, o.clearing, o.correction)
+        && o.book == BOOK_ROWS * o.quarters
+        && o.log % 4 == 0
+        && o.schedules == SCHEDULE_ROWS * o.quarters
 }
 
 pub fn groups_ok(groups: [u64; DELTAS as usize]) -> bool
     ensures { result ≡ all group_ok groups }
 {
     let mut ok = true;
-    for i in 0..DELTAS as usize {
-        ok = ok & group_ok(groups[i]);
+    for group in &groups {
+        ok &= group_ok(*group);
     }
     ok
 }
 
 // The delta groups of both runs.
+#[tactic(auto, unfolding(state::specs::Valid::deltas_ok))]
 pub fn deltas_ok(groups: DeltaGroups) -> bool
     ensures { result ≡ deltas_ok groups }
 {
-    let first = groups.first;
-    let second = groups.second;
-    groups_ok(first) & groups_ok(second)
+    groups_ok(groups.first) & groups_ok(groups.second)
 }
 
 // How many rows the values have: none before the opening.
 pub fn rows_in(o: Opening) -> u64
     ensures { result ≡ rows_in o }
 {
-    if o.quarters == 0 {
-        return 0;
-    }
-    o.values / o.quarters
+    o.values.checked_div(o.quarters).unwrap_or(0)
 }
 
 // All but the two tables.
+#[tactic(auto, unfolding(state::specs::Valid::frame_ok))]
 pub fn frame_ok(f: Frame) -> bool
     ensures { result ≡ frame_ok f }
 {
-    let opening = f.opening;
-    let day = f.day;
-    let groups = f.groups;
-    opening_ok(opening)
-        & (day_ok(day)
-            & (deltas_ok(groups)
-                & ((f.count <= VERSIONS)
-                    & ((f.count <= rows_in(opening)) & (f.used <= opening.log / 4)))))
+    opening_ok(f.opening)
+        & day_ok(f.day)
+        & deltas_ok(f.groups)
+        & (f.count <= VERSIONS)
+        & (f.count <= rows_in(f.opening))
+        & (f.used <= f.opening.log / 4)
 }

@@ -2,7 +2,7 @@
 ghost use Rattle.std.specs.Prelude.{◌≡◌};
 ghost use Rattle.state.specs.Desk.{is_open};
 ghost use Rattle.state.specs.Valid.{valid_desk};
-ghost use Rattle.model.specs.Causes.{asking_nothing, asking_series, asking_versions, is_absent, not_check};
+ghost use Rattle.model.specs.Causes.{asking_nothing, asking_series, asking_versions, not_check};
 ghost use Rattle.checks.specs.Look.{Looked};
 ghost use Rattle.checks.specs.Survey.{record_at};
 
@@ -13,28 +13,28 @@ use crate::surveys::{nothing_found, survey, survey_tested};
 use model::Asks;
 use quantity::{PointNo, Version};
 use state::statuses::is_check;
-use state::{Desk, Held, Opening, PointRecord};
+use state::{Desk, HeldVersion, Opening, PointRecord};
 
 // All limits are tested, by one walk over each table.
 pub fn look(d: Desk, a: Asks) -> Look
     ensures { Looked d a result }
 {
     let frame = d.frame;
-    let opening = frame.opening;
-    let points = d.points;
-    let versions = d.versions;
-    let point = a.point;
-    let version = a.version;
-    let found = survey_tested(versions, frame.count, rows_in(opening), point, version);
-    let seen = scan(points, a.kind, a.area, a.partner);
-    let here = state_at(points, point);
+    let found = survey_tested(
+        d.versions,
+        frame.count,
+        rows_in(frame.opening),
+        a.point,
+        a.version,
+    );
+    let seen = scan(d.points, a.kind, a.area, a.partner);
+    let here = state_at(d.points, a.point);
     let valid = frame_ok(frame) & (seen.fit & found.fit);
-    let survey = found.survey;
     Look {
         valid,
         here,
         taken: seen.taken,
-        survey,
+        survey: found.survey,
     }
 }
 
@@ -45,23 +45,17 @@ pub fn glance(d: Desk, p: PointRecord, a: Asks) -> Look
     requires p_value { p ≡ record_at d.points a.point.0 }
     ensures { Looked d a result }
 {
-    let frame = d.frame;
-    let opening = frame.opening;
-    let point = a.point;
-    let version = a.version;
-    let here = state_in(p, point);
+    let here = state_in(p, a.point);
     let mut taken = false;
     if a.series {
-        let points = d.points;
-        taken = has_series(points, a.kind, a.area, a.partner);
+        taken = has_series(d.points, a.kind, a.area, a.partner);
     }
     let mut found = nothing_found();
     if a.versions {
-        let versions = d.versions;
-        found = survey(versions, frame.count, point, version);
+        found = survey(d.versions, d.frame.count, a.point, a.version);
     }
     Look {
-        valid: is_open(opening),
+        valid: is_open(d.frame.opening),
         here,
         taken,
         survey: found,
@@ -127,23 +121,8 @@ pub fn is_open(o: Opening) -> bool
     o.quarters != 0
 }
 
-pub fn absent(h: Held) -> bool
-    ensures { result ≡ is_absent h }
-{
-    match h {
-        Held::Absent => true,
-        Held::Has { at: _, record: _ } => false,
-    }
-}
-
-pub fn not_check(h: Held) -> bool
+pub fn not_check(h: Option<HeldVersion>) -> bool
     ensures { result ≡ not_check h }
 {
-    match h {
-        Held::Absent => true,
-        Held::Has { at: _, record } => {
-            let status = record.status;
-            !is_check(status)
-        }
-    }
+    h.is_none_or(|found| !is_check(found.record.status))
 }

@@ -32,12 +32,10 @@ fn point_of(v: VersionRecord) -> PointNo
 fn picked(p: PointPicks, at: u64, v: VersionRecord, point: PointNo) -> PointPicks
     ensures { result ≡ picks_step point.0 p at v }
 {
-    let first = p.first;
-    let second = p.second;
     let row = row_at(at, v);
     PointPicks {
-        first: raised_if(is_counted(v, 1, point), first, row),
-        second: raised_if(is_counted(v, 2, point), second, row),
+        first: raised_if(is_counted(v, 1, point), p.first, row),
+        second: raised_if(is_counted(v, 2, point), p.second, row),
     }
 }
 
@@ -66,10 +64,9 @@ pub fn picks_of(
 pub fn selected_in(p: PointPicks, run: u64) -> Selection
     ensures { result ≡ selected_in run p }
 {
-    let first = p.first;
     if run == 1 {
-        return first;
+        p.first
+    } else {
+        or_else(p.second, p.first)
     }
-    let second = p.second;
-    or_else(second, first)
 }

@@ -27,30 +27,19 @@ pub fn state_in(p: PointRecord, point: PointNo) -> PointState
     if !point_ok(point) {
         return PointState::Free;
     }
-    let state = p.state;
-    state
+    p.state
 }
 
 pub fn state_at(points: [PointRecord; POINTS as usize], point: PointNo) -> PointState
     ensures { result ≡ point_at points point.0 }
 {
-    let i = place_of(point);
-    let p = points[i];
-    state_in(p, point)
+    state_in(points[place_of(point)], point)
 }
 
 pub fn is_active(s: PointState) -> bool
     ensures { result ≡ is_active s }
 {
-    match s {
-        PointState::Free => false,
-        PointState::Active {
-            since: _,
-            kind: _,
-            area: _,
-            partner: _,
-        } => true,
-    }
+    matches!(s, PointState::Active { .. })
 }
 
 pub fn since_of(s: PointState) -> Day
@@ -58,12 +47,7 @@ pub fn since_of(s: PointState) -> Day
 {
     match s {
         PointState::Free => Day(0),
-        PointState::Active {
-            since,
-            kind: _,
-            area: _,
-            partner: _,
-        } => Day(since.0 as u64),
+        PointState::Active { since, .. } => Day(since.0 as u64),
     }
 }
 
@@ -74,16 +58,11 @@ pub fn is_series(s: PointState, kind: u64, area: u64, partner: u64) -> bool
     match s {
         PointState::Free => false,
         PointState::Active {
-            since: _,
             kind: k,
             area: a,
             partner: b,
-        } => {
-            if b.0 as u64 != partner {
-                return false;
-            }
-            (k.0 as u64 == kind) & (a.0 as u64 == area)
-        }
+            ..
+        } => b.0 as u64 == partner && (k.0 as u64 == kind) & (a.0 as u64 == area),
     }
 }
 
@@ -97,10 +76,8 @@ pub fn has_series(
     ensures { result ≡ any (has_series kind area partner) points }
 {
     let mut taken = false;
-    for i in 0..POINTS as usize {
-        let p = points[i];
-        let state = p.state;
-        taken = taken | is_series(state, kind, area, partner);
+    for p in &points {
+        taken |= is_series(p.state, kind, area, partner);
     }
     taken
 }
@@ -110,11 +87,9 @@ pub fn scan(points: [PointRecord; POINTS as usize], kind: u64, area: u64, partne
 {
     let mut fit = true;
     let mut taken = false;
-    for i in 0..POINTS as usize {
-        let p = points[i];
-        let state = p.state;
-        fit = fit & point_record_ok(p);
-        taken = taken | is_series(state, kind, area, partner);
+    for p in &points {
+        fit &= point_record_ok(*p);
+        taken |= is_series(p.state, kind, area, partner);
     }
     Scan { fit, taken }
 }

@@ -1,14 +1,11 @@
-// The table of causes: what is refused stays refused, what is fine is refused where the test holds.
-ghost use Rattle.std.specs.Prelude.{◌≡◌};
-ghost use Rattle.model.specs.Causes.{or_if};
+// A line of the table of causes.
+ghost use Rattle.std.specs.Prelude.{◌≡◌, cond, Ok, Err};
 
-use model::{Cause, Ruling};
+use model::Cause;
 
-pub fn or_if(v: Ruling, test: bool, cause: Cause) -> Ruling
-    ensures { result ≡ or_if v test cause }
+// Refused with the cause where the test holds. A call's ruling asks this line by line, from the top of its table, and ends at the first refusal.
+pub fn refuse_if(test: bool, cause: Cause) -> Result<(), Cause>
+    ensures { result ≡ cond test (Err cause) (Ok tt) }
 {
-    match v {
-        Ruling::Refuse(_) => v,
-        Ruling::Fine => { if test { Ruling::Refuse(cause) } else { v } }
-    }
+    if test { Err(cause) } else { Ok(()) }
 }

@@ -7,15 +7,13 @@ ghost use Rattle.quantity.specs.Word.{signed};
 use quantity::WattHours;
 use quantity::limits::energy_ok;
 
-// Every energy is in its range.
+// Every energy is in its range. All are tested, with no branch.
 pub fn energies_ok(series: &[u64]) -> bool
     ensures { result ≡ all energy_ok (map signed series.now) }
 {
     let mut ok = true;
-    let mut i = 0;
-    while i < series.len() {
-        ok = ok & energy_ok(WattHours(series[i]));
-        i += 1;
+    for energy in series {
+        ok &= energy_ok(WattHours(*energy));
     }
     ok
 }

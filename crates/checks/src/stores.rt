@@ -5,7 +5,7 @@ ghost use Rattle.model.specs.Causes.{other_lengths, log_full};
 ghost use Rattle.checks.specs.Lent.{lengths_in};
 
 use crate::Sizes;
-use model::Due;
+use model::LogRow;
 use state::Opening;
 
 // Cause 2: values, book or log in another length than at the opening.
@@ -16,11 +16,11 @@ pub fn other_lengths(o: Opening, n: Sizes) -> bool
 }
 
 // Cause 17: a log row is due and none is left; a row has four numbers.
-pub fn log_full(used: u64, log: u64, due: Due) -> bool
+pub fn log_full(used: u64, log: u64, due: Option<LogRow>) -> bool
     requires { 4 * used ≤ log }
     ensures { result ≡ log_full used log due }
 {
-    let Due::Row(_) = due else {
+    let Some(_) = due else {
         return false;
     };
     log - 4 * used < 4

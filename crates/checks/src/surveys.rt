@@ -9,16 +9,22 @@ use crate::{Survey, Tested};
 use quantity::limits::VERSIONS;
 use quantity::{PointNo, Version};
 use state::selections::{higher, is_at, is_counted, is_version, raised_if, row_at};
-use state::{Held, Selection, VersionRecord};
+use state::{HeldVersion, Selection, VersionRecord};
 
-pub fn or_held(held: Held, at: u64, v: VersionRecord, point: PointNo, version: Version) -> Held
+pub fn or_held(
+    held: Option<HeldVersion>,
+    at: u64,
+    v: VersionRecord,
+    point: PointNo,
+    version: Version,
+) -> Option<HeldVersion>
     ensures { result ≡ or_held point.0 version.0 held at v }
 {
     match held {
-        Held::Has { at: _, record: _ } => held,
-        Held::Absent => {
+        Some(_) => held,
+        None => {
             if is_version(v, point, version) {
-                Held::Has { at, record: v }
+                Some(HeldVersion { at, record: v })
             } else {
                 held
             }
@@ -31,7 +37,7 @@ pub fn nothing_found() -> Survey
     ensures { result ≡ nothing_found }
 {
     Survey {
-        held: Held::Absent,
+        held: None,
         highest: Version(0),
         first: Selection::None,
         second: Selection::None,
@@ -43,16 +49,12 @@ pub fn nothing_found() -> Survey
 fn surveyed(s: Survey, at: u64, v: VersionRecord, point: PointNo, version: Version) -> Survey
     ensures { result ≡ survey_step point.0 version.0 s at v }
 {
-    let held = s.held;
-    let highest = s.highest;
-    let first = s.first;
-    let second = s.second;
     let row = row_at(at, v);
     Survey {
-        held: or_held(held, at, v, point, version),
-        highest: higher(highest, is_at(v, point), v.version),
-        first: raised_if(is_counted(v, 1, point), first, row),
-        second: raised_if(is_counted(v, 2, point), second, row),
+        held: or_held(s.held, at, v, point, version),
+        highest: higher(s.highest, is_at(v, point), v.version),
+        first: raised_if(is_counted(v, 1, point), s.first, row),
+        second: raised_if(is_counted(v, 2, point), s.second, row),
         read: s.read,
     }
 }

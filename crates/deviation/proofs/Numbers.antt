@@ -76,4 +76,4 @@ reports b s q r g =
     fine i w = rw (ranges i, lengths w)
 
     there : InRange q r g → Whole b s q → Found (length b) (length s) q r g
-    there i w = found (length b) (length s) q r g (report_refusal (length b) (length s) q r g) refl (fine i w)
+    there i w = found (length b) (length s) q r g (sym (fine i w))

@@ -1,14 +1,18 @@
 -- The report from bytes by the papers' numbers: which answer is given when, where its rows stand, and which sums it has. Assumes nothing.
 use Prim.Native.Nat.{ℕ, ◌+◌, ◌*◌, ◌≤◌}
-use mathlib.Core.Path.{◌≡◌, refl, sym, ◌∙◌}
+use mathlib.Core.Path.{◌≡◌, refl}
 use mathlib.Core.Bool.{Bool, true, false, cond, ◌&&◌}
 use native.Mathlib.Omega.{arith}
 use borrow.Author.Tests.{eqb-true}
 use lib.Dec.{eqb}
+use Rattle.std.specs.Prelude.{Result, Ok, Err, IsErr}
 use Rattle.quantity.specs.Limits.{quarters_ok, run_ok, group_ok, most_quarters, runs, groups, book_rows, schedule_rows}
 use Rattle.quantity.proofs.Tests.{and-left, and-right, within-low, within-high}
 use Rattle.book.specs.Place.{group_row, row_start}
+use Rattle.book.specs.declared.refusal.BookRefusal.{BookRefusal}
 use Rattle.book.proofs.Places.{row-before, row-within}
+use Rattle.deviation.specs.declared.Deviation.{Deviation}
+use Rattle.deviation.specs.Answer.{surplus_of, shortfall_of}
 use Rattle.deviation.specs.Place.{schedule_start}
 use Rattle.deviation.specs.Month.{Reported}
 use Rattle.deviation.specs.Bytes.{report_ok, lengths_ok, report_refusal}
@@ -75,11 +79,20 @@ found-in b s q r g p l =
       booked = booked-within q r g r1 r2 g1 g2;
     }
 
-pub found : (b s q r g m : ℕ) → m ≡ report_refusal b s q r g → m ≡ 0 → Found b s q r g
+pub found : (b s q r g : ℕ) → 0 ≡ report_refusal b s q r g → Found b s q r g
 unfolding report_refusal
-found b s q r g m e z = go (report_ok q r g) (lengths_ok b s q) refl refl (sym e ∙ z)
+found b s q r g e = go (report_ok q r g) (lengths_ok b s q) refl refl e
   where
-    go : (t u : Bool) → report_ok q r g ≡ t → lengths_ok b s q ≡ u → ◌≡◌ {A = ℕ} (cond t (cond u 0 2) 3) 0 → Found b s q r g
+    go : (t u : Bool) → report_ok q r g ≡ t → lengths_ok b s q ≡ u → ◌≡◌ {A = ℕ} 0 (cond t (cond u 0 2) 3) → Found b s q r g
     go true true p l z = found-in b s q r g p l
     go true false p l z = absurd (omega arith)
     go false u p l z = absurd (omega arith)
+
+-- what is refused has no sums
+pub no-surplus : (r : Result Deviation BookRefusal) → IsErr r → surplus_of r ≡ 0
+no-surplus (Ok x) e = cc e
+no-surplus (Err r) e = refl
+
+pub no-shortfall : (r : Result Deviation BookRefusal) → IsErr r → shortfall_of r ≡ 0
+no-shortfall (Ok x) e = cc e
+no-shortfall (Err r) e = refl

@@ -5,17 +5,16 @@ use mathlib.Core.List.{List, [], ◌∷◌, ◌++◌, append-nil}
 use native.Mathlib.Omega.{arith}
 use lib.IntN.{ℤ}
 use lib.ListN.{length}
+use Rattle.std.specs.Prelude.{Option, Some}
 use Rattle.message.specs.Named.{call_of, groups_of}
 use Rattle.message.specs.declared.DeskCall.{DeskCall}
-use Rattle.message.specs.declared.Named.{Named}
-use Rattle.message.specs.declared.Named.TheVariants.{Known}
 use Rattle.message.proofs.Fields.{field-names}
 use Rattle.model.specs.Call.{Call}
 use Rattle.dispatch.specs.Asked.{asked}
 use Rattle.dispatch.specs.Laws.{Says, opening, activation, deactivation, submission, noticing, assignment, closing, issuing}
 
 -- a call by its name is the call by another one that it has
-same : {a b : DeskCall} (groups : List ℕ) (energies : List ℤ) {x : Named} → x ≡ Known a → x ≡ Known b → asked b groups energies ≡ asked a groups energies
+same : {a b : DeskCall} (groups : List ℕ) (energies : List ℤ) {x : Option DeskCall} → x ≡ Some a → x ≡ Some b → asked b groups energies ≡ asked a groups energies
 same {a} {b} groups energies p q = let e : b ≡ a = cc in ap (λ (d : DeskCall). asked d groups energies) e
 
 none_left : (l : List ℕ) → length l ≡ 0 → l ≡ []
@@ -24,7 +23,7 @@ none_left (x ∷ l) h = absurd (omega arith)
 
 -- the fields of a call stand before others, 21 in all: the groups beside it are an opening's 17
 pub asked-says : {kind : ℕ} {fields : List ℕ} {energies : List ℤ} {c : Call} → Says kind fields energies c → (more : List ℕ) → length fields + length more ≡ 21 →
-    {d : DeskCall} → call_of kind (fields ++ more) ≡ Known d → asked d (groups_of (fields ++ more)) energies ≡ c
+    {d : DeskCall} → call_of kind (fields ++ more) ≡ Some d → asked d (groups_of (fields ++ more)) energies ≡ c
 unfolding asked
 asked-says (opening q f c k groups n) more h e =
     let whole : groups ++ more ≡ groups = rw (none_left more (omega arith)) (append-nil groups) in

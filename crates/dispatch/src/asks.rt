@@ -15,38 +15,21 @@ pub fn asks_of(call: DeskCall) -> Asks
     ensures { (groups : List ℕ) (energies : List ℤ) → result ≡ (terms (asked call groups energies)).asks }
 {
     match call {
-        DeskCall::Open {
-            quarters: _,
-            first: _,
-            clearing: _,
-            correction: _,
-        } => asking_nothing(),
         DeskCall::Activate {
             point,
             kind,
             area,
             partner,
-            day: _,
+            ..
         } => asking_series(point, kind, area, partner),
-        DeskCall::Deactivate { point, day: _ } => asking_versions(point, Version(0)),
-        DeskCall::Submit {
-            point,
-            version,
-            day: _,
-        } => asking_versions(point, version),
-        DeskCall::Notice {
-            point,
-            version,
-            verdict: _,
-            day: _,
-        } => asking_versions(point, version),
-        DeskCall::Assign {
-            area: _,
-            group: _,
-            day: _,
-        } => asking_nothing(),
-        DeskCall::Close { run: _, day: _ } => asking_nothing(),
-        DeskCall::Issue { run: _, day: _ } => asking_nothing(),
+        DeskCall::Deactivate { point, .. } => asking_versions(point, Version(0)),
+        DeskCall::Submit { point, version, .. } | DeskCall::Notice { point, version, .. } => {
+            asking_versions(point, version)
+        }
+        DeskCall::Open { .. }
+        | DeskCall::Assign { .. }
+        | DeskCall::Close { .. }
+        | DeskCall::Issue { .. } => asking_nothing(),
     }
 }
 
@@ -54,9 +37,7 @@ pub fn asks_of(call: DeskCall) -> Asks
 pub fn place_in(call: DeskCall) -> usize
     ensures { (groups : List ℕ) (energies : List ℤ) → result ≡ place_of (terms (asked call groups energies)).asks.point.0 }
 {
-    let asks = asks_of(call);
-    let point = asks.point;
-    place_of(point)
+    place_of(asks_of(call).point)
 }
 
 // Q of the book that it is lent: an opening's own, else the desk's.
@@ -64,37 +45,7 @@ pub fn quarters_of(call: DeskCall, q: u64) -> u64
     ensures { (groups : List ℕ) (energies : List ℤ) → result ≡ (terms (asked call groups energies)).quarters q }
 {
     match call {
-        DeskCall::Open {
-            quarters,
-            first: _,
-            clearing: _,
-            correction: _,
-        } => quarters,
-        DeskCall::Activate {
-            point: _,
-            kind: _,
-            area: _,
-            partner: _,
-            day: _,
-        } => q,
-        DeskCall::Deactivate { point: _, day: _ } => q,
-        DeskCall::Submit {
-            point: _,
-            version: _,
-            day: _,
-        } => q,
-        DeskCall::Notice {
-            point: _,
-            version: _,
-            verdict: _,
-            day: _,
-        } => q,
-        DeskCall::Assign {
-            area: _,
-            group: _,
-            day: _,
-        } => q,
-        DeskCall::Close { run: _, day: _ } => q,
-        DeskCall::Issue { run: _, day: _ } => q,
+        DeskCall::Open { quarters, .. } => quarters,
+        _ => q,
     }
 }

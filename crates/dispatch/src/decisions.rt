@@ -84,7 +84,8 @@ pub fn answer(
     ensures { WholeStepped d (asked call groups (map signed series.now)) (stores_of values.old book.old log.old schedules.old) result.answer result.desk (stores_of values.new book.new log.new schedules.new) }
 {
     let l = look(d, asks_of(call));
-    let frame = d.frame;
-    let r = decide(frame, l, call, groups, series, values, book, log, schedules);
+    let r = decide(
+        d.frame, l, call, groups, series, values, book, log, schedules,
+    );
     outcome(d, r)
 }

@@ -1,8 +1,6 @@
 // The desk program: a message file from standard input through the desk; answers and figures to standard output.
 #![tactic(auto)]
 
-use output::Filled;
-
 const STDIN: i32 = 0;
 
 const STDOUT: i32 = 1;
@@ -11,10 +9,10 @@ const STDERR: i32 = 2;
 
 // Whether the output got out.
 fn run(input: &[u8], out: &mut [u8]) -> bool {
-    let Filled::Length(n) = output::fill(input, out) else {
-        return false;
-    };
-    io::write_all(STDOUT, &out[..n])
+    match output::fill(input, out) {
+        Some(n) => io::write_all(STDOUT, &out[..n]),
+        None => false,
+    }
 }
 
 fn main() {

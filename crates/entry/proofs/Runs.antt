@@ -4,6 +4,7 @@ use mathlib.Core.Path.{◌≡◌, refl, sym, ap, ◌∙◌, subst}
 use mathlib.Core.Bool.{Bool, true, false, false≢true}
 use mathlib.Core.List.{List, [], ◌∷◌, map}
 use lib.IntN.{ℤ}
+use Rattle.std.specs.Prelude.{Ok, Err}
 use Rattle.quantity.specs.Word.{signed}
 use Rattle.message.specs.declared.DeskCall.{DeskCall}
 use Rattle.message.specs.declared.DeskCall.TheVariants.{Open, Activate, Deactivate, Submit, Notice, Assign, Close, Issue}
@@ -12,14 +13,12 @@ use Rattle.state.specs.declared.Desk.{Desk}
 use Rattle.state.specs.declared.Opening.{Opening}
 use Rattle.model.specs.Agreement.{Running, IsOwn, Own, left_in, left, next, Chained, replies, end, fresh, Agree}
 use Rattle.model.specs.Call.{Call, opens, shows, asks, lodges, reports, every_store, Stores, told, Reply, answer_number}
-use Rattle.model.specs.Causes.{takes}
+use Rattle.model.specs.Causes.{takes, Ruling}
 use Rattle.model.specs.Plain.{plainly, plain_replies, plain_end}
 use Rattle.model.specs.Step.{Outcome, answering, step, granting, decided, refusal_by, reply_of, with_schedules}
 use Rattle.model.specs.declared.Answer.{Answer}
 use Rattle.model.specs.declared.Answer.TheVariants.{Refused}
 use Rattle.model.specs.declared.Cause.{Cause}
-use Rattle.model.specs.declared.Ruling.{Ruling}
-use Rattle.model.specs.declared.Ruling.TheVariants.{Fine, Refuse}
 use Rattle.model.proofs.Lending.{left-in}
 use Rattle.model.proofs.Main.{agree}
 use Rattle.checks.specs.Stepped.{IsWholeStep, ScheduleStepped, Answered, lent, stores_of}
@@ -36,8 +35,8 @@ unfolding step decided
 ruled P d s c e h = go (refusal_by d (told (lent c s)))
   where
     go : (v : Ruling) → P (decided v d s c)
-    go Fine = e
-    go (Refuse x) = h x
+    go (Ok tt) = e
+    go (Err x) = h x
 
 -- it shows and reports nothing
 abbrev Bare : Outcome → Type 0

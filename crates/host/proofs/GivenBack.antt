@@ -9,9 +9,9 @@ use Rattle.message.specs.Read.{got}
 use Rattle.message.specs.Call.{Sent, Carried, fields_of, is_kind, parse}
 use Rattle.message.specs.Named.{call_of, later_call_of, groups_of}
 use Rattle.message.specs.declared.DeskCall.{DeskCall}
-use Rattle.message.specs.declared.Named.TheVariants.{Known}
+use Rattle.std.specs.Prelude.{Some, Ok}
 use Rattle.reader.specs.Reader.{padded, read_at}
-use Rattle.reader.specs.declared.Step.TheVariants.{Call}
+use Rattle.reader.specs.declared.CallRead.{CallRead}
 use Rattle.host.specs.Call.{kind_of, head_of, written, read_out}
 use Rattle.message.proofs.ByKind.{each-kind}
 use Rattle.message.proofs.Calls.{parse-read}
@@ -28,9 +28,9 @@ one-more P n p (x ∷ l) e = p x l (omega arith)
 
 -- the call of a kind with these fields gives them back
 abbrev Back : ℕ → List ℕ → Type 0
-Back k fields = (d : DeskCall) → call_of k (padded fields) ≡ Known d → (kind_of d ≡ k) × (head_of d ++ groups_of (padded fields) ≡ padded fields)
+Back k fields = (d : DeskCall) → call_of k (padded fields) ≡ Some d → (kind_of d ≡ k) × (head_of d ++ groups_of (padded fields) ≡ padded fields)
 
-back : (k : ℕ) (fields : List ℕ) (e : DeskCall) → call_of k (padded fields) ≡ Known e → (kind_of e ≡ k) × (head_of e ++ groups_of (padded fields) ≡ padded fields) → Back k fields
+back : (k : ℕ) (fields : List ℕ) (e : DeskCall) → call_of k (padded fields) ≡ Some e → (kind_of e ≡ k) × (head_of e ++ groups_of (padded fields) ≡ padded fields) → Back k fields
 back k fields e q p d r =
     let same : e ≡ d = cc in
     subst (λ (x : DeskCall). (kind_of x ≡ k) × (head_of x ++ groups_of (padded fields) ≡ padded fields)) same p
@@ -55,7 +55,7 @@ by-fields =
     four k n f = two k (n + 1 + 1) (λ a b. one-more (λ (l : List ℕ). Back k (a ∷ b ∷ l)) (n + 1) (λ c. one-more (λ (l : List ℕ). Back k (a ∷ b ∷ c ∷ l)) n (f a b c)))
 
 -- what a file carries is given back
-pub given-back : {c : Sent} {d : DeskCall} → Carried c → call_of c.kind (padded c.fields) ≡ Known d →
+pub given-back : {c : Sent} {d : DeskCall} → Carried c → call_of c.kind (padded c.fields) ≡ Some d →
     (kind_of d ≡ c.kind) × (head_of d ++ groups_of (padded c.fields) ≡ padded c.fields)
 given-back {c} {d} h e = by-fields c.kind h.known c.fields h.whole d e
 
@@ -63,9 +63,9 @@ same-places : (m : ℕ) {k k' n n' : ℕ} {fields fields' : List ℕ} (out : Lis
 same-places m out a b c = rw (a, b, c)
 
 -- so the places of a call that was read hold the kind, the fields and the count that stand in the file, and the offset behind them
-pub places-read : (s : List ℕ) (at room : ℕ) (out : List ℕ) {d : DeskCall} {n m : ℕ} → (read_at s at room).step ≡ Call d n m →
-    (c : Sent) × (parse room (drop at s) ≡ got c (drop m s)) × (read_out (read_at s at room) out ≡ written m c.kind (padded c.fields) (length c.energies) out)
-places-read s at room out {d} {n} {m} e =
+pub places-read : (s : List ℕ) (at room : ℕ) (out : List ℕ) {read : CallRead} → read_at s at room ≡ Ok (Some read) →
+    (c : Sent) × (parse room (drop at s) ≡ got c (drop read.next s)) × (read_out (read_at s at room) out ≡ written read.next c.kind (padded c.fields) (length c.energies) out)
+places-read s at room out {read} e =
     let w = reader-call s at room e in
     let b = given-back (parse-read room (drop at s) w.parsed).carried w.named in
-    (w.call, w.parsed, rw e (same-places m out b.0 (ap (λ (l : List ℕ). head_of d ++ l) w.beside ∙ b.1) w.count))
+    (w.call, w.parsed, rw e (same-places read.next out b.0 (ap (λ (l : List ℕ). head_of read.call ++ l) w.beside ∙ b.1) w.count))

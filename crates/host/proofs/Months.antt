@@ -1,14 +1,14 @@
 -- The sum of a row, figure by figure, and the row that passed the test. Assumes nothing.
-use Prim.Native.Nat.{ℕ, ◌+◌, ◌*◌, ◌≤◌, ◌<◌}
-use mathlib.Core.Path.{◌≡◌, refl, sym, ap, ◌∙◌}
-use mathlib.Core.Bool.{Bool, true, false, cond, ◌&&◌}
+use Prim.Native.Nat.{ℕ, ◌+◌, ◌≤◌}
+use mathlib.Core.Path.{◌≡◌, refl, sym, ◌∙◌}
+use mathlib.Core.Bool.{Bool, true, false, ◌&&◌}
 use mathlib.Core.List.{List}
 use native.Mathlib.Numerals.{add-one}
 use native.Mathlib.Omega.{arith}
 use borrow.Author.Tests.{ltb-true}
 use lib.Dec.{ltb}
 use lib.ListN.{get_or}
-use Rattle.quantity.specs.Limits.{quarters_ok, run_ok, most_quarters, runs, run_rows, book_rows}
+use Rattle.quantity.specs.Limits.{quarters_ok, run_ok, most_quarters, runs, run_rows}
 use Rattle.quantity.specs.Word.{plus}
 use Rattle.quantity.proofs.Tests.{and-left, and-right, within-low, within-high}
 use Rattle.book.specs.Place.{IsRow, row_start}

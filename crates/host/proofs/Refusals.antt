@@ -1,7 +1,7 @@
 -- "A refusal returns its number and changes nothing in the desk, its stores or the output.": of each entry that is lent places to write, what a refusal
 -- leaves, in numbers. Assumes nothing.
 use Prim.Native.Nat.{ℕ, ◌+◌, ◌<◌, ◌≤◌}
-use mathlib.Core.Path.{◌≡◌, refl, sym, ◌∙◌}
+use mathlib.Core.Path.{◌≡◌, refl, sym, ap, ◌∙◌}
 use mathlib.Core.Bool.{Bool, true, false}
 use mathlib.Core.List.{List}
 use mathlib.Core.Logic.{◌⊎◌, inl, inr}
@@ -15,16 +15,14 @@ use Rattle.message.specs.File.{calls_in}
 use Rattle.message.specs.declared.FileCause.{FileCause}
 use Rattle.message.specs.declared.FileCause.TheVariants.{Cut, NotShortest, BadKind, TooLarge, NoRoom}
 use Rattle.model.specs.Call.{Stores}
-use Rattle.reader.specs.Reader.{read_at}
-use Rattle.reader.specs.declared.Step.{Step}
-use Rattle.reader.specs.declared.Step.TheVariants.{Call, End, Refused}
+use Rattle.std.specs.Prelude.{Some, None, Result, Ok, Err}
+use Rattle.message.specs.declared.FileRefusal.{FileRefusal}
+use Rattle.reader.specs.Reader.{Reading, read_at}
 use Rattle.reader.proofs.Theorems.{beyond, reader-call, reader-end, reader-refused, end-keeps, reader-keeps}
 use Rattle.replay.specs.Replay.{ending_of}
 use Rattle.replay.specs.declared.Ending.{Ending}
 use Rattle.replay.specs.declared.Ending.TheVariants.{End as Ended, Refused as Stopped, Full}
 use Rattle.writer.specs.Writer.{written_in}
-use Rattle.writer.specs.declared.Written.{Written}
-use Rattle.writer.specs.declared.Written.TheVariants.{Length, Refused as NotWritten}
 use Rattle.host.specs.Call.{places, step_offset, ReadCall, WriteCall}
 use Rattle.host.specs.Replay.{Places, fitting, ending_number, Summarised}
 use Rattle.host.proofs.Summaries.{summary-fits, points-fit, versions-fit}
@@ -40,11 +38,14 @@ at-least NoRoom = omega arith
 -- ---- `emorizugu_read`
 
 -- a refused call stands where it was read from, within the file and beyond it
-refused-at : (s : List ℕ) (at room : ℕ) {x : FileCause} {o : ℕ} → (read_at s at room).step ≡ Refused x o → o ≡ at
+refused-at : (s : List ℕ) (at room : ℕ) {x : FileCause} {o : ℕ} → read_at s at room ≡ Err (record { cause = x; offset = o }) → o ≡ at
 refused-at s at room {x} {o} q = by-length (ltb (length s) at) refl
   where
     by-length : (b : Bool) → ltb (length s) at ≡ b → o ≡ at
-    by-length true e = let r = beyond s at room (ltb-true (length s) at e) in cc
+    by-length true e =
+        let r : ◌≡◌ {A = Reading} (Err (record { cause = x; offset = o })) (Err (record { cause = Cut; offset = at })) = sym q ∙ beyond s at room (ltb-true (length s) at e) in
+        let same : ◌≡◌ {A = FileRefusal} (record { cause = x; offset = o }) (record { cause = Cut; offset = at }) = cc in
+        ap (λ (y : FileRefusal). y.offset) same
     by-length false e = (reader-refused s at room (ltb-false (length s) at e) q).1
 
 module _ (file : List ℕ) (start : ℕ) (series out : List ℕ) {answer : ℕ} {series' out' : List ℕ} (R : ReadCall file start series out answer series' out') where
@@ -52,14 +53,14 @@ module _ (file : List ℕ) (start : ℕ) (series out : List ℕ) {answer : ℕ} 
   pub read-keeps : (answer ≡ 0 → ⊥) → (series' ≡ series) × (out' ≡ out)
   read-keeps n = by-places (ltb (length out) places) refl
     where
-      by-step : ltb (length out) places ≡ false → (t : Step) → (read_at file start (length series)).step ≡ t → (series' ≡ series) × (out' ≡ out)
-      by-step e (Call d k m) q = absurd (n (R.0 ∙ rw (e, q)))
-      by-step e End q = (R.1 ∙ rw e (end-keeps file start series q), R.2 ∙ rw (e, q))
-      by-step e (Refused x at) q = (R.1 ∙ rw e (reader-keeps file start series q), R.2 ∙ rw (e, q))
+      by-step : ltb (length out) places ≡ false → (t : Reading) → read_at file start (length series) ≡ t → (series' ≡ series) × (out' ≡ out)
+      by-step e (Ok (Some r)) q = absurd (n (R.0 ∙ rw (e, q)))
+      by-step e (Ok None) q = (R.1 ∙ rw e (end-keeps file start series q), R.2 ∙ rw (e, q))
+      by-step e (Err r) q = (R.1 ∙ rw e (reader-keeps file start series q), R.2 ∙ rw (e, q))
 
       by-places : (b : Bool) → ltb (length out) places ≡ b → (series' ≡ series) × (out' ≡ out)
       by-places true e = (R.1 ∙ rw e, R.2 ∙ rw e)
-      by-places false e = by-step e (read_at file start (length series)).step refl
+      by-places false e = by-step e (read_at file start (length series)) refl
 
 -- where the call stands: one that is refused at the start that it was read from, no call at the file's end, and one that is read ends behind its three
 -- bytes or more, where the first place says
@@ -70,33 +71,33 @@ pub record Stands (file : List ℕ) (start answer : ℕ) (out : List ℕ) (offse
 
 -- `emorizugu_read_offset` over the same input, with the length of the series buffer
 pub offset-told : (file : List ℕ) (start : ℕ) (series out : List ℕ) {answer offset : ℕ} {series' out' : List ℕ} → 24 ≤ length out → ReadCall file start series out answer series' out'
-    → offset ≡ step_offset start (read_at file start (length series)).step → Stands file start answer out' offset
-offset-told file start series out {answer} {offset} {series'} {out'} enough R O = go (read_at file start (length series)).step refl
+    → offset ≡ step_offset start (read_at file start (length series)) → Stands file start answer out' offset
+offset-told file start series out {answer} {offset} {series'} {out'} enough R O = go (read_at file start (length series)) refl
   where
     long : ltb (length out) places ≡ false
     long = le-ltb (length out) places enough
 
-    go : (t : Step) → (read_at file start (length series)).step ≡ t → Stands file start answer out' offset
-    go (Call d n m) q =
+    go : (t : Reading) → read_at file start (length series) ≡ t → Stands file start answer out' offset
+    go (Ok (Some r)) q =
         let w = reader-call file start (length series) q in
         let a : answer ≡ 0 = R.0 ∙ rw (long, q) in
-        let o : offset ≡ m = O ∙ rw q in
-        let first : get_or out' 0 0 ≡ m = rw (R.2, long, q) refl in
+        let o : offset ≡ r.next = O ∙ rw q in
+        let first : get_or out' 0 0 ≡ r.next = rw (R.2, long, q) refl in
         record {
           refused = λ h. absurd (omega arith);
           ended = λ h. absurd (omega arith);
           read = λ _. (o ∙ sym first, omega (arith, w.later), omega (arith, w.within));
         }
-    go End q =
+    go (Ok None) q =
         let a : answer ≡ 1 = R.0 ∙ rw (long, q) in
         record {
           refused = λ h. absurd (omega arith);
           ended = λ _. O ∙ rw q (reader-end file start (length series) q);
           read = λ h. absurd (omega arith);
         }
-    go (Refused x at) q =
-        let a : answer ≡ cause_number x = R.0 ∙ rw (long, q) in
-        let l = at-least x in
+    go (Err r) q =
+        let a : answer ≡ cause_number r.cause = R.0 ∙ rw (long, q) in
+        let l = at-least r.cause in
         record {
           refused = λ _. O ∙ rw q (refused-at file start (length series) q);
           ended = λ h. absurd (omega arith);
@@ -109,9 +110,9 @@ offset-told file start series out {answer} {offset} {series'} {out'} enough R O 
 pub write-keeps : (c : Sent) (output out : List ℕ) {answer : ℕ} {output' out' : List ℕ} → WriteCall c output out answer output' out' → (answer ≡ 0 → ⊥) → (output' ≡ output) × (out' ≡ out)
 write-keeps c output out {answer} {output'} {out'} W n = by-places (eqb (length out) 0) refl
   where
-    by-answer : eqb (length out) 0 ≡ false → (w : Written) → written_in (length output) c ≡ w → (output' ≡ output) × (out' ≡ out)
-    by-answer e (Length m) q = absurd (n (W.0 ∙ rw (e, q)))
-    by-answer e (NotWritten x at) q = (W.1 ∙ rw (e, q), W.2 ∙ rw (e, q))
+    by-answer : eqb (length out) 0 ≡ false → (w : Result ℕ FileRefusal) → written_in (length output) c ≡ w → (output' ≡ output) × (out' ≡ out)
+    by-answer e (Ok m) q = absurd (n (W.0 ∙ rw (e, q)))
+    by-answer e (Err r) q = (W.1 ∙ rw (e, q), W.2 ∙ rw (e, q))
 
     by-places : (b : Bool) → eqb (length out) 0 ≡ b → (output' ≡ output) × (out' ≡ out)
     by-places true e = (W.1 ∙ rw e, W.2 ∙ rw e)

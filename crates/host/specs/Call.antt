@@ -1,17 +1,13 @@
 -- One call read and one call written, as numbers in slices.
-use Rattle.std.specs.Prelude.{ℕ, ◌+◌, ◌≡◌, cond, List, [], ◌∷◌, ◌++◌, ltb, eqb, length, drop}
+use Rattle.std.specs.Prelude.{ℕ, ◌+◌, ◌≡◌, cond, List, [], ◌∷◌, ◌++◌, ltb, eqb, length, drop, Some, None, Result, Ok, Err}
 use Rattle.message.specs.Cause.{cause_number}
 use Rattle.message.specs.Call.{Sent, opening, activation, deactivation, submission, noticing, assignment, closing, issuing, most_fields}
 use Rattle.message.specs.declared.DeskCall.{DeskCall}
 use Rattle.message.specs.declared.DeskCall.TheVariants.{Open, Activate, Deactivate, Submit, Notice, Assign, Close, Issue}
-use Rattle.reader.specs.Reader.{read_at, series_after}
-use Rattle.reader.specs.declared.Reading.{Reading}
-use Rattle.reader.specs.declared.Step.{Step}
-use Rattle.reader.specs.declared.Step.TheVariants.{Call, End, Refused}
+use Rattle.reader.specs.Reader.{Reading, read_at, series_after}
 use Rattle.writer.specs.Fields.{fields21}
 use Rattle.writer.specs.Writer.{handed, written_in, output_after}
-use Rattle.writer.specs.declared.Written.{Written}
-use Rattle.writer.specs.declared.Written.TheVariants.{Length, Refused as NotWritten}
+use Rattle.message.specs.declared.FileRefusal.{FileRefusal}
 
 -- the places of what was read: next, kind, 21 fields, count
 abbrev pub places : ℕ
@@ -40,35 +36,31 @@ head_of (Close r d) = r ∷ d.0 ∷ 0 ∷ 0 ∷ []
 head_of (Issue r d) = r ∷ d.0 ∷ 0 ∷ 0 ∷ []
 
 -- 0 for a call, 1 where no call follows, else the refusal's number
-abbrev pub read_answer : Step → ℕ
-read_answer (Call d n m) = 0
-read_answer End = 1
-read_answer (Refused x at) = cause_number x
+abbrev pub read_answer : Reading → ℕ
+read_answer (Ok (Some r)) = 0
+read_answer (Ok None) = 1
+read_answer (Err r) = cause_number r.cause
 
 -- the first 24 places written, the others as they were
 abbrev pub written : (first kind : ℕ) (fields : List ℕ) (count : ℕ) (out : List ℕ) → List ℕ
 written first kind fields count out = first ∷ kind ∷ (fields ++ (count ∷ drop places out))
 
--- what stands there after a step: only a call that is read writes its places. "A refusal returns its number and changes nothing in .. the output."
-abbrev pub step_out : Step → (groups out : List ℕ) → List ℕ
-step_out (Call d n m) groups out = written m (kind_of d) (head_of d ++ groups) n out
-step_out End groups out = out
-step_out (Refused x at) groups out = out
-
--- what stands there after a reading
+-- what stands there after a reading: only a call that is read writes its places. "A refusal returns its number and changes nothing in .. the output."
 abbrev pub read_out : Reading → (out : List ℕ) → List ℕ
-read_out r out = step_out r.step r.groups out
+read_out (Ok (Some r)) out = written r.next (kind_of r.call) (head_of r.call ++ r.groups) r.count out
+read_out (Ok None) out = out
+read_out (Err r) out = out
 
 -- "31 to 35 come with an offset, that of the refused call"; without a refusal the offset behind the call, at the file's end that end
-abbrev pub step_offset : (start : ℕ) → Step → ℕ
-step_offset start (Call d n m) = m
-step_offset start End = start
-step_offset start (Refused x at) = at
+abbrev pub step_offset : (start : ℕ) → Reading → ℕ
+step_offset start (Ok (Some r)) = r.next
+step_offset start (Ok None) = start
+step_offset start (Err r) = r.offset
 
 -- what a read answers, and how it leaves the series buffer and the places: 2, and nothing is done, where the places are fewer than 24
 abbrev pub ReadCall : (file : List ℕ) (start : ℕ) (series out : List ℕ) (answer : ℕ) (series' out' : List ℕ) → Type 0
 ReadCall file start series out answer series' out' =
-    (answer ≡ cond (ltb (length out) places) 2 (read_answer (read_at file start (length series)).step))
+    (answer ≡ cond (ltb (length out) places) 2 (read_answer (read_at file start (length series))))
     × (series' ≡ cond (ltb (length out) places) series (series_after file start series))
     × (out' ≡ cond (ltb (length out) places) out (read_out (read_at file start (length series)) out))
 
@@ -77,14 +69,14 @@ abbrev pub sent_as : (kind : ℕ) (fields series : List ℕ) → Sent
 sent_as kind fields series = handed kind (fields21 fields) series
 
 -- 0, or the refusal's number
-abbrev pub write_answer : Written → ℕ
-write_answer (Length n) = 0
-write_answer (NotWritten x at) = cause_number x
+abbrev pub write_answer : Result ℕ FileRefusal → ℕ
+write_answer (Ok n) = 0
+write_answer (Err r) = cause_number r.cause
 
 -- the length written stands in the first place, the others as they were; a refusal leaves all
-abbrev pub write_out : Written → (out : List ℕ) → List ℕ
-write_out (Length n) out = n ∷ drop 1 out
-write_out (NotWritten x at) out = out
+abbrev pub write_out : Result ℕ FileRefusal → (out : List ℕ) → List ℕ
+write_out (Ok n) out = n ∷ drop 1 out
+write_out (Err r) out = out
 
 -- what a write answers, and how it leaves the output and the place of its length: 2, and nothing is done, where that place is missing
 abbrev pub WriteCall : Sent → (output out : List ℕ) (answer : ℕ) (output' out' : List ℕ) → Type 0

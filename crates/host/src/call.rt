@@ -6,9 +6,6 @@ ghost use Rattle.host.specs.Call.{places, written, step_offset, ReadCall, sent_a
 use crate::{TOO_SHORT, numbers};
 use message::call::MOST_FIELDS;
 use message::file::pass_any;
-use message::{Passed, cause};
-use reader::Step;
-use writer::Written;
 use writer::fields::pad_fields;
 
 // The places of what was read: the offset behind it, its kind, 21 fields, a count.
@@ -28,11 +25,7 @@ fn fill_out(out: &mut [u64], first: u64, kind: u64, fields: [u64; MOST_FIELDS], 
 {
     out[0] = first;
     out[1] = kind;
-    let mut i = 0;
-    while i < MOST_FIELDS {
-        out[FIELDS_AT + i] = fields[i];
-        i += 1;
-    }
+    out[FIELDS_AT..COUNT_AT].copy_from_slice(&fields);
     out[COUNT_AT] = count;
 }
 
@@ -48,18 +41,15 @@ pub extern "C" fn emorizugu_read(
     if out.len() < PLACES {
         return TOO_SHORT;
     }
-    let reading = reader::read_call(file, start as usize, series);
-    let step = reading.step;
-    let groups = reading.groups;
-    match step {
-        Step::Call { call, count, next } => {
-            let kind = numbers::kind_of(call);
-            let fields = numbers::numbers_of(call, groups);
-            fill_out(out, next as u64, kind, fields, count as u64);
+    match reader::read_call(file, start as usize, series) {
+        Ok(Some(read)) => {
+            let kind = numbers::kind_of(read.call);
+            let fields = numbers::numbers_of(read.call, read.groups);
+            fill_out(out, read.next as u64, kind, fields, read.count as u64);
             0
         }
-        Step::End => NO_CALL,
-        Step::Refused { cause, offset: _ } => cause::number_of(cause),
+        Ok(None) => NO_CALL,
+        Err(unread) => u64::from(unread.cause),
     }
 }
 
@@ -67,15 +57,15 @@ pub extern "C" fn emorizugu_read(
 // the file's end that end.
 #[unsafe(no_mangle)]
 pub extern "C" fn emorizugu_read_offset(file: &[u8], start: u64, room: u64) -> u64
-    ensures { result ≡ step_offset start (read_at file.now start room).step }
+    ensures { result ≡ step_offset start (read_at file.now start room) }
 {
     let at = start as usize;
     if at == file.len() {
         return start;
     }
     match pass_any(file, at, room as usize) {
-        Passed::To(next) => next as u64,
-        Passed::Refused(_) => start,
+        Ok(next) => next as u64,
+        Err(_) => start,
     }
 }
 
@@ -93,10 +83,10 @@ pub extern "C" fn emorizugu_write(
         return TOO_SHORT;
     }
     match writer::write_call(kind, pad_fields(fields), series, output) {
-        Written::Length(n) => {
-            out[0] = n as u64;
+        Ok(length) => {
+            out[0] = length as u64;
             0
         }
-        Written::Refused { cause, offset: _ } => cause::number_of(cause),
+        Err(unwritten) => u64::from(unwritten.cause),
     }
 }

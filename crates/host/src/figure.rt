@@ -2,6 +2,8 @@
 ghost use Rattle.std.specs.Prelude.{◌≡◌, length};
 ghost use Rattle.book.specs.Bytes.{figure_refusal, figure_in};
 
+use book::figure::{check, figure};
+
 // 3 for a number outside its range, else 2 for a length other than 1,296 × Q, else 0.
 #[unsafe(no_mangle)]
 pub extern "C" fn emorizugu_figure_refusal(
@@ -13,7 +15,10 @@ pub extern "C" fn emorizugu_figure_refusal(
 ) -> u64
     ensures { result ≡ figure_refusal (length book.now) quarters run group quarter }
 {
-    book::figure::figure_refusal(book, quarters, run, group, quarter)
+    match check(book, quarters, run, group, quarter) {
+        Ok(()) => 0,
+        Err(refusal) => refusal.into(),
+    }
 }
 
 // The figure as a 64-bit word, and 0 where it is refused.
@@ -27,6 +32,8 @@ pub extern "C" fn emorizugu_figure(
 ) -> u64
     ensures { result ≡ figure_in book.now quarters run group quarter }
 {
-    let figure = book::figure::figure(book, quarters, run, group, quarter);
-    figure.0
+    match figure(book, quarters, run, group, quarter) {
+        Ok(figure) => figure.0,
+        Err(_) => 0,
+    }
 }

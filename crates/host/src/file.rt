@@ -2,7 +2,7 @@
 ghost use Rattle.std.specs.Prelude.{◌≡◌};
 ghost use Rattle.message.specs.File.{verdict_of, refusal_of, offset_of};
 
-use message::{FileVerdict, cause, file};
+use message::file;
 
 // 0, or the number of the first refusal: 31 to 34.
 #[unsafe(no_mangle)]
@@ -10,8 +10,8 @@ pub extern "C" fn emorizugu_file_refusal(file: &[u8]) -> u64
     ensures { result ≡ refusal_of (verdict_of file.now) }
 {
     match file::check_file(file) {
-        FileVerdict::Whole { length: _ } => 0,
-        FileVerdict::Refused { cause, offset: _ } => cause::number_of(cause),
+        Ok(_) => 0,
+        Err(refusal) => u64::from(refusal.cause),
     }
 }
 
@@ -21,7 +21,7 @@ pub extern "C" fn emorizugu_file_offset(file: &[u8]) -> u64
     ensures { result ≡ offset_of (verdict_of file.now) }
 {
     match file::check_file(file) {
-        FileVerdict::Whole { length } => length as u64,
-        FileVerdict::Refused { cause: _, offset } => offset as u64,
+        Ok(length) => length as u64,
+        Err(refusal) => refusal.offset as u64,
     }
 }

@@ -12,11 +12,8 @@ fn sum_from(book: &[u64], start: usize, q: usize) -> WattHours
     ensures { result.0 ≡ sum_from book.now start q }
 {
     let mut sum = WattHours(0);
-    let mut n = 0;
-    while n < q {
-        let figure = field_at(book, start + n);
-        sum = word::sum(sum, WattHours(figure));
-        n += 1;
+    for n in 0..q {
+        sum = word::sum(sum, WattHours(field_at(book, start + n)));
     }
     sum
 }
@@ -24,7 +21,7 @@ fn sum_from(book: &[u64], start: usize, q: usize) -> WattHours
 fn row_ok(quarters: u64, run: u64, row: u64) -> bool
     ensures { result ≡ row_ok quarters run row }
 {
-    limits::quarters_ok(quarters) & (limits::run_ok(run) & (row < limits::RUN_ROWS))
+    limits::quarters_ok(quarters) & limits::run_ok(run) & (row < limits::RUN_ROWS)
 }
 
 fn month_of(book: &[u64], quarters: u64, run: u64, row: u64) -> WattHours
@@ -32,9 +29,10 @@ fn month_of(book: &[u64], quarters: u64, run: u64, row: u64) -> WattHours
 {
     if row_ok(quarters, run, row) {
         let start = row_start(run as usize, row as usize, quarters as usize);
-        return sum_from(book, start, quarters as usize);
+        sum_from(book, start, quarters as usize)
+    } else {
+        WattHours(0)
     }
-    WattHours(0)
 }
 
 // The sum of a run's row, as a 64-bit word; 0 where there is no such row.
@@ -42,8 +40,7 @@ fn month_of(book: &[u64], quarters: u64, run: u64, row: u64) -> WattHours
 pub extern "C" fn emorizugu_sum(book: &[u64], quarters: u64, run: u64, row: u64) -> u64
     ensures { result ≡ month_of book.now quarters run row }
 {
-    let sum = month_of(book, quarters, run, row);
-    sum.0
+    month_of(book, quarters, run, row).0
 }
 
 // Run 2's sum of a row less run 1's, as a 64-bit word.
@@ -53,6 +50,5 @@ pub extern "C" fn emorizugu_difference(book: &[u64], quarters: u64, row: u64) ->
 {
     let second = month_of(book, quarters, 2, row);
     let first = month_of(book, quarters, 1, row);
-    let difference = word::difference(second, first);
-    difference.0
+    word::difference(second, first).0
 }

@@ -2,7 +2,7 @@
 ghost use Rattle.std.specs.Prelude.{◌≡◌, length};
 ghost use Rattle.deviation.specs.Bytes.{report_refusal, surplus_in, shortfall_in};
 
-use deviation::bytes::{report, report_refusal};
+use deviation::bytes::{check, report};
 
 // 3 for a number outside its range, else 2 for a book or schedules of another length than 1,296 × Q and 512 × Q, else 0.
 #[unsafe(no_mangle)]
@@ -15,7 +15,10 @@ pub extern "C" fn emorizugu_report_refusal(
 ) -> u64
     ensures { result ≡ report_refusal (length book.now) (length schedules.now) quarters run group }
 {
-    report_refusal(book, schedules, quarters, run, group)
+    match check(book, schedules, quarters, run, group) {
+        Ok(()) => 0,
+        Err(refusal) => refusal.into(),
+    }
 }
 
 // The surplus as a 64-bit word, and 0 where the report is refused.
@@ -29,8 +32,10 @@ pub extern "C" fn emorizugu_surplus(
 ) -> u64
     ensures { result ≡ surplus_in book.now schedules.now quarters run group }
 {
-    let sums = report(book, schedules, quarters, run, group);
-    sums.surplus.0
+    match report(book, schedules, quarters, run, group) {
+        Ok(sums) => sums.surplus.0,
+        Err(_) => 0,
+    }
 }
 
 // The shortfall likewise.
@@ -44,6 +49,8 @@ pub extern "C" fn emorizugu_shortfall(
 ) -> u64
     ensures { result ≡ shortfall_in book.now schedules.now quarters run group }
 {
-    let sums = report(book, schedules, quarters, run, group);
-    sums.shortfall.0
+    match report(book, schedules, quarters, run, group) {
+        Ok(sums) => sums.shortfall.0,
+        Err(_) => 0,
+    }
 }

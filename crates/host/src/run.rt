@@ -5,17 +5,15 @@ ghost use Rattle.quantity.specs.Limits.{runs, deltas};
 ghost use Rattle.book.specs.Row.{splice};
 ghost use Rattle.replay.specs.Replay.{over};
 ghost use Rattle.host.specs.Replay.{ending_number, ending_offset, summary_numbers, summary_places, fits, listed, places_of, Summarised};
-ghost use Rattle.summary.specs.Table.{flag_number};
 
 use crate::TOO_SHORT;
+use amend::copies::put_row;
 use message::cause;
 use quantity::limits::{DELTAS, RUNS};
 use replay::Ending;
 use state::{DeltaGroups, Frame};
 use summary::Refusals;
-use summary::table::{
-    POINT_PLACES, VERSION_PLACES, put_points, put_row, put_versions, refusals_of,
-};
+use summary::table::{POINT_PLACES, VERSION_PLACES, put_points, put_versions, refusals_of};
 
 // How many numbers of a summary stand before the delta groups.
 const SUMMARY_NUMBERS: usize = 12;
@@ -28,7 +26,7 @@ fn number_of(ending: Ending) -> u64
 {
     match ending {
         Ending::End => 0,
-        Ending::Refused { cause, offset: _ } => cause::number_of(cause),
+        Ending::Refused { cause, offset: _ } => u64::from(cause),
         Ending::Full => cause::NO_ROOM,
     }
 }
@@ -43,17 +41,11 @@ fn offset_of(length: u64, ending: Ending) -> u64
     }
 }
 
-fn flag_number(flag: bool) -> u64
-    ensures { result ≡ flag_number flag }
-{
-    if flag { 1 } else { 0 }
-}
-
 // Whether the places lent are as many as a summary, the points and the versions take.
 fn all_fit(summary: usize, points: usize, versions: usize) -> bool
     ensures { result ≡ fits summary points versions }
 {
-    (SUMMARY_PLACES <= summary) & ((POINT_PLACES <= points) & (VERSION_PLACES <= versions))
+    (SUMMARY_PLACES <= summary) & (POINT_PLACES <= points) & (VERSION_PLACES <= versions)
 }
 
 // The delta groups of both runs, behind the other numbers of a summary.
@@ -61,10 +53,8 @@ fn put_groups(summary: &mut [u64], groups: DeltaGroups)
     requires { summary_places ≤ length summary.old }
     ensures { summary.new ≡ splice summary.old summary_numbers (runs * deltas) (groups.first ++ groups.second) }
 {
-    let first = groups.first;
-    let second = groups.second;
-    put_row(summary, SUMMARY_NUMBERS, &first);
-    put_row(summary, SUMMARY_NUMBERS + DELTAS as usize, &second);
+    put_row(summary, SUMMARY_NUMBERS, &groups.first);
+    put_row(summary, SUMMARY_NUMBERS + DELTAS as usize, &groups.second);
 }
 
 // All places of a summary.
@@ -72,31 +62,22 @@ fn put_summary(summary: &mut [u64], answered: u64, offset: u64, refused: Refusal
     requires { summary_places ≤ length summary.old }
     ensures { summary.new ≡ over (listed answered offset f.opening.quarters f.used f.count refused.count refused.first f.day.0 f.closed f.issued f.groups) summary.old }
 {
-    let opening = f.opening;
-    let day = f.day;
-    let groups = f.groups;
-    let closed = f.closed;
-    let issued = f.issued;
-    let closed_first = flag_number(closed.first);
-    let closed_second = flag_number(closed.second);
-    let issued_first = flag_number(issued.first);
-    let issued_second = flag_number(issued.second);
     let numbers = [
         answered,
         offset,
-        opening.quarters,
+        f.opening.quarters,
         f.used,
         f.count,
         refused.count,
         refused.first,
-        day.0,
-        closed_first,
-        closed_second,
-        issued_first,
-        issued_second,
+        f.day.0,
+        u64::from(f.closed.first),
+        u64::from(f.closed.second),
+        u64::from(f.issued.first),
+        u64::from(f.issued.second),
     ];
     put_row(summary, 0, &numbers);
-    put_groups(summary, groups);
+    put_groups(summary, f.groups);
 }
 
 // 0, or the number of the first refusal; 35 where the answers are full; 2, and nothing is done, where a summary, the points or the versions have fewer
@@ -121,15 +102,12 @@ pub extern "C" fn emorizugu_replay(
         return TOO_SHORT;
     }
     let run = replay::replay(file, values, book, log, schedules, series, answers);
-    let ending = run.ending;
     let desk = run.desk;
     let f = desk.frame;
-    let offset = offset_of(file.len() as u64, ending);
+    let offset = offset_of(file.len() as u64, run.ending);
     let refused = refusals_of(answers, run.answered);
     put_summary(summary, run.answered as u64, offset, refused, f);
-    let table = desk.points;
-    let held = desk.versions;
-    put_points(points, table, held, f.count);
-    put_versions(versions, held, f.count);
-    number_of(ending)
+    put_points(points, desk.points, desk.versions, f.count);
+    put_versions(versions, desk.versions, f.count);
+    number_of(run.ending)
 }

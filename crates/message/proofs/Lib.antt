@@ -20,3 +20,4 @@ pub mod Placed
 pub mod Theorems
 pub mod Pouring
 pub mod SeriesSteps
+pub mod Refusing

@@ -9,13 +9,13 @@ use native.Mathlib.Numerals.{add-one}
 use native.Mathlib.Nat.{pow-suc, pow-le-pow_right, mul-le-mul_left, mul-add, mul_assoc, add_assoc}
 use lib.ListN.{length, drop, get_or, length-drop, drop_of_length-le}
 use lib.Seq.{drop-cons}
+use Rattle.std.specs.Prelude.{Result, Err, IsOk}
 use Rattle.message.specs.Read.{Read, got, refused, accepted}
 use Rattle.message.specs.Number.{above, decode_in, decode}
-use Rattle.message.specs.Offset.{itself, number_of, number_at}
+use Rattle.message.specs.Offset.{itself, number_of, number_at, number_to}
 use Rattle.message.specs.declared.FileCause.{FileCause}
 use Rattle.message.specs.declared.FileCause.TheVariants.{Cut, NotShortest}
 use Rattle.message.specs.declared.NumberRead.{NumberRead}
-use Rattle.message.specs.declared.NumberRead.TheVariants.{Number, Refused}
 use Rattle.message.proofs.Numbers.{decode-none, decode-out, decode-only, decode-zero, decode-last, decode-more}
 
 above-more : (low place b : ℕ) (d : Read ℕ) → above low place (above (b % 128) 128 d) ≡ above (low + place * (b % 128)) (place * 128) d
@@ -44,16 +44,16 @@ fits-in value place i b l p h hb =
     omega arith
 
 -- a number that ends before j + 1
-pub finish : (s : List ℕ) (j v : ℕ) {d : Read ℕ} → j < length s → d ≡ got v (drop (suc j) s) → Number v (j + 1) ≡ number_of itself (length s) d
-finish s j v h e = rw (e, length-drop (suc j) s) (ap (Number v) (omega arith))
+pub finish : (s : List ℕ) (j v : ℕ) {d : Read ℕ} → j < length s → d ≡ got v (drop (suc j) s) → number_to v (j + 1) ≡ number_of itself (length s) d
+finish s j v h e = rw (e, length-drop (suc j) s) (ap (number_to v) (omega arith))
 
 module _ {s : List ℕ} {d : Read ℕ} {value place i j : ℕ} (w : Reading s d value place i j) where
   -- nine bytes with the top bit set
-  pub all-nine : 9 ≤ i → Refused NotShortest ≡ number_of itself (length s) d
+  pub all-nine : 9 ≤ i → Err NotShortest ≡ number_of itself (length s) d
   all-nine h = let none : 9 - i ≡ 0 = omega arith in rw (w.same, none, decode-out)
 
   -- the file ends
-  pub ended : i < 9 → length s ≤ j → Refused Cut ≡ number_of itself (length s) d
+  pub ended : i < 9 → length s ≤ j → Err Cut ≡ number_of itself (length s) d
   ended l h = let fuel : 9 - i ≡ suc (8 - i) = omega arith in rw (w.same, fuel, drop_of_length-le s h, decode-none)
 
   module _ (l : i < 9) (h : j < length s) {b : ℕ} (q : b ≡ get_or s j 0) where
@@ -61,16 +61,16 @@ module _ {s : List ℕ} {d : Read ℕ} {value place i j : ℕ} (w : Reading s d 
     fuel = omega arith
 
     -- a last byte that is 0
-    pub zero_last : b ≡ 0 → Refused NotShortest ≡ number_of itself (length s) d
+    pub zero_last : b ≡ 0 → Err NotShortest ≡ number_of itself (length s) d
     zero_last z = rw (w.same, fuel, drop-cons s j 0 h, sym q, z, decode-zero (8 - i) (drop (suc j) s))
 
     -- a last byte
-    pub «last» : b < 128 → (b ≡ 0 → ⊥) → Number (value + place * b) (j + 1) ≡ number_of itself (length s) d
+    pub «last» : b < 128 → (b ≡ 0 → ⊥) → number_to (value + place * b) (j + 1) ≡ number_of itself (length s) d
     «last» lb z = finish s j (value + place * b) h (w.same ∙ rw (fuel, drop-cons s j 0 h, sym q, decode-last (8 - i) b (drop (suc j) s) lb z))
 
     -- the same, by what it gives and where it ends
-    pub last-as : {v m : ℕ} → value + place * b ≡ v → j + 1 ≡ m → b < 128 → (b ≡ 0 → ⊥) → Number v m ≡ number_of itself (length s) d
-    last-as ev em lb z = ap₂ Number (sym ev) (sym em) ∙ «last» lb z
+    pub last-as : {v m : ℕ} → value + place * b ≡ v → j + 1 ≡ m → b < 128 → (b ≡ 0 → ⊥) → number_to v m ≡ number_of itself (length s) d
+    last-as ev em lb z = ap₂ number_to (sym ev) (sym em) ∙ «last» lb z
 
     -- a byte before others
     pub more : 128 ≤ b → Reading s d (value + place * (b % 128)) (place * 128) (i + 1) (j + 1)
@@ -95,9 +95,14 @@ pub moved : {s : List ℕ} {d : Read ℕ} {value place i j v p k m : ℕ} → va
 moved ev ep ei ej w = rw (sym ev, sym ep, sym ei, sym ej) w
 
 -- what is accepted is not refused
-pub not-refused : (n : ℕ) (d : Read ℕ) {x : FileCause} → accepted d ≡ true → Refused x ≡ number_of itself n d → ⊥
+pub not-refused : (n : ℕ) (d : Read ℕ) {x : FileCause} → accepted d ≡ true → Err x ≡ number_of itself n d → ⊥
 not-refused n (got v r) a e = let z : ◌≡◌ {A = ℕ} 0 1 = cc in omega arith
 not-refused n (refused y) a e = false≢true a
+
+-- it is there
+pub is-there : (n : ℕ) (d : Read ℕ) → accepted d ≡ true → IsOk (number_of itself n d)
+is-there n (got v r) a = refl
+is-there n (refused x) a = absurd (false≢true a)
 
 module _ {s : List ℕ} {d : Read ℕ} {value place i j : ℕ} (w : Reading s d value place i j) (a : accepted d ≡ true) (l : i < 9) where
   -- a number that stands there and goes on has a byte more
@@ -113,14 +118,14 @@ module _ {s : List ℕ} {d : Read ℕ} {value place i j : ℕ} (w : Reading s d 
   not-zero q z = not-refused (length s) d a (zero_last w l there q z)
 
 -- the first byte: none, an only one, one before others
-pub none-at : (s : List ℕ) (at : ℕ) → length s ≤ at → Refused Cut ≡ number_at s at
+pub none-at : (s : List ℕ) (at : ℕ) → length s ≤ at → Err Cut ≡ number_at s at
 none-at s at h = rw (drop_of_length-le s h, decode-none)
 
 module _ (s : List ℕ) (at : ℕ) (h : at < length s) {b : ℕ} (q : b ≡ get_or s at 0) where
-  pub only-at : b < 128 → Number b (at + 1) ≡ number_at s at
+  pub only-at : b < 128 → number_to b (at + 1) ≡ number_at s at
   only-at l = let e : decode (drop at s) ≡ got b (drop (suc at) s) = rw (drop-cons s at 0 h, sym q) (decode-only 8 b (drop (suc at) s) l) in finish s at b h e
 
-  pub more-at : 128 ≤ b → {r : NumberRead} → r ≡ number_of itself (length s) (above (b % 128) 128 (decode_in 8 false (drop (at + 1) s))) → r ≡ number_at s at
+  pub more-at : 128 ≤ b → {r : Result NumberRead FileCause} → r ≡ number_of itself (length s) (above (b % 128) 128 (decode_in 8 false (drop (at + 1) s))) → r ≡ number_at s at
   more-at l e = e ∙ rw (drop-cons s at 0 h, sym q, decode-more 8 true b (drop (suc at) s) l, add-one at)
 
   -- one before others, by what it gives

@@ -4,12 +4,11 @@ use mathlib.Core.Path.{◌≡◌, refl, sym, ap, ◌∙◌}
 use mathlib.Core.List.{List, [], ◌∷◌, ◌++◌, append_assoc, append-nil}
 use native.Mathlib.Omega.{arith}
 use lib.ListN.{length, drop, length-append}
+use Rattle.std.specs.Prelude.{Ok, Err}
 use Rattle.message.specs.Read.{Read, got, refused, onward}
 use Rattle.message.specs.Number.{numbers_in}
-use Rattle.message.specs.Offset.{number_at, passed_of}
+use Rattle.message.specs.Offset.{number_at, passed_of, number_to}
 use Rattle.message.specs.declared.FileCause.{FileCause}
-use Rattle.message.specs.declared.NumberRead.TheVariants.{Number, Refused as NoNumber}
-use Rattle.message.specs.declared.Passed.TheVariants.{To, Refused as NotPassed}
 use Rattle.message.proofs.Placed.{offset-is, found, found-not}
 
 -- numbers before a row
@@ -42,7 +41,7 @@ started s at n h =
     record { inside = h; count = omega arith; size = refl; same = rw all (prepend-none (numbers_in n (drop at s))) }
 
 module _ {s : List ℕ} {at n j i : ℕ} {vs : List ℕ} (w : Passing s at n j i vs) where
-  pub one-more : {v m : ℕ} → i < n → number_at s j ≡ Number v m → Passing s at n m (i + 1) (vs ++ (v ∷ []))
+  pub one-more : {v m : ℕ} → i < n → number_at s j ≡ number_to v m → Passing s at n m (i + 1) (vs ++ (v ∷ []))
   unfolding numbers_in
   one-more {v} {m} h e =
       let f = found s j e in
@@ -54,7 +53,7 @@ module _ {s : List ℕ} {at n j i : ℕ} {vs : List ℕ} (w : Passing s at n j i
         same = w.same ∙ rw (fuel, f.decoded) (prepend-one vs v (numbers_in (n - (i + 1)) (drop m s)));
       }
 
-  pub stopped : {x : FileCause} → i < n → number_at s j ≡ NoNumber x → numbers_in n (drop at s) ≡ refused x
+  pub stopped : {x : FileCause} → i < n → number_at s j ≡ Err x → numbers_in n (drop at s) ≡ refused x
   unfolding numbers_in
   stopped h e = let fuel : n - i ≡ suc (n - (i + 1)) = omega arith in w.same ∙ rw (fuel, found-not s j e)
 
@@ -62,10 +61,10 @@ module _ {s : List ℕ} {at n j i : ℕ} {vs : List ℕ} (w : Passing s at n j i
   unfolding numbers_in
   done h = let none : n - i ≡ 0 = omega (arith, w.count) in w.same ∙ rw none (ap (λ (x : List ℕ). got x (drop j s)) (append-nil vs))
 
-  pub passed : n ≤ i → To j ≡ passed_of (length s) (numbers_in n (drop at s))
-  passed h = rw (done h) (ap To (sym (offset-is s j w.inside)))
+  pub passed : n ≤ i → Ok j ≡ passed_of (length s) (numbers_in n (drop at s))
+  passed h = rw (done h) (ap Ok (sym (offset-is s j w.inside)))
 
-  pub not-passed : {x : FileCause} → i < n → number_at s j ≡ NoNumber x → NotPassed x ≡ passed_of (length s) (numbers_in n (drop at s))
+  pub not-passed : {x : FileCause} → i < n → number_at s j ≡ Err x → Err x ≡ passed_of (length s) (numbers_in n (drop at s))
   not-passed h e = rw (stopped h e)
 
   -- what is left has the same end

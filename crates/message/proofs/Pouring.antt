@@ -7,13 +7,13 @@ use native.Mathlib.Omega.{arith}
 use native.Mathlib.Numerals.{add-one}
 use lib.ListN.{length, drop, take, set, length-set, length-map, take-append-drop}
 use lib.Seq.{take-suc-set, drop-set-lt, drop-drop}
+use Rattle.std.specs.Prelude.{Err}
 use Rattle.quantity.specs.Word.{word}
 use Rattle.message.specs.Read.{Read, got, refused, accepted}
 use Rattle.message.specs.Number.{decode, numbers_in}
 use Rattle.message.specs.Energy.{received}
-use Rattle.message.specs.Offset.{number_at}
+use Rattle.message.specs.Offset.{number_at, number_to}
 use Rattle.message.specs.Series.{list_of, filled}
-use Rattle.message.specs.declared.NumberRead.TheVariants.{Number, Refused as NoNumber}
 use Rattle.message.proofs.Passing.{Passing, started, one-more, stopped, done}
 
 -- one place more of a list is written: what stands before it, and behind
@@ -40,7 +40,7 @@ words-more [] v = refl
 words-more (u ∷ vs) v = ap (λ (x : List ℕ). word (received u) ∷ x) (words-more vs v)
 
 module _ {s : List ℕ} {at n : ℕ} {series₀ series : List ℕ} {j i : ℕ} (w : Pouring s at n series₀ series j i) where
-  pub poured-more : {v m e : ℕ} → i < n → n ≤ length series₀ → number_at s j ≡ Number v m → e ≡ word (received v) →
+  pub poured-more : {v m e : ℕ} → i < n → n ≤ length series₀ → number_at s j ≡ number_to v m → e ≡ word (received v) →
       Pouring s at n series₀ (set series i e) m (i + 1)
   poured-more {v} {m} {e} h room q z =
       let inside : i < length series = omega (arith, w.long) in
@@ -65,5 +65,5 @@ module _ {s : List ℕ} {at n : ℕ} {series₀ series : List ℕ} {j i : ℕ} (
       go : (d : Read ℕ) → decode (drop j s) ≡ d → accepted (decode (drop j s)) ≡ true
       go (got v r) q = rw q
       go (refused x) q =
-          let none : number_at s j ≡ NoNumber x = rw q in
+          let none : number_at s j ≡ Err x = rw q in
           absurd (false≢true (sym (ap accepted (stopped w.pass h none)) ∙ a))

@@ -1,13 +1,12 @@
 -- A file: its calls, and where it ends or is refused.
-use Rattle.std.specs.Prelude.{ℕ, zero, suc, ◌-◌, List, [], ◌∷◌, ◌++◌, length}
+use Rattle.std.specs.Prelude.{ℕ, zero, suc, ◌-◌, List, [], ◌∷◌, ◌++◌, length, Result, Ok, Err}
 use Rattle.quantity.specs.Limits.{most_quarters}
 use Rattle.message.specs.Cause.{cause_number}
 use Rattle.message.specs.Read.{Read, got, refused}
 use Rattle.message.specs.Call.{Sent, Carried, parse, print}
 use Rattle.message.specs.declared.FileCause.{FileCause}
 use Rattle.message.specs.declared.FileCause.TheVariants.{Cut}
-use Rattle.message.specs.declared.FileVerdict.{FileVerdict}
-use Rattle.message.specs.declared.FileVerdict.TheVariants.{Whole, Refused}
+use Rattle.message.specs.declared.FileRefusal.{FileRefusal}
 
 -- the bytes of calls: "An empty file has no calls."
 unfoldable pub print_all : List Sent → List ℕ
@@ -58,20 +57,20 @@ pub data CarriedAll : List Sent → Type 0 where
   one : {c : Sent} {cs : List Sent} → Carried c → CarriedAll cs → CarriedAll (c ∷ cs)
 
 -- how a file of so many bytes ends, of which so many are left: "its offset or, without one, the file's length"
-abbrev pub verdict_at : (length left : ℕ) → Ending → FileVerdict
-verdict_at n left whole = Whole n
-verdict_at n left (stopped x) = Refused x (n - left)
+abbrev pub verdict_at : (length left : ℕ) → Ending → Result ℕ FileRefusal
+verdict_at n left whole = Ok n
+verdict_at n left (stopped x) = Err (record { cause = x; offset = n - left })
 
 -- the verdict on a file, with a series buffer of 2,980: "0 or the number of the first refusal (31 to 34)"
-abbrev pub verdict_of : List ℕ → FileVerdict
+abbrev pub verdict_of : List ℕ → Result ℕ FileRefusal
 verdict_of s = verdict_at (length s) (length (calls_in most_quarters s).left) (calls_in most_quarters s).ending
 
 -- "0 or the number of the first refusal (31 to 34)"
-abbrev pub refusal_of : FileVerdict → ℕ
-refusal_of (Whole n) = 0
-refusal_of (Refused x at) = cause_number x
+abbrev pub refusal_of : Result ℕ FileRefusal → ℕ
+refusal_of (Ok n) = 0
+refusal_of (Err r) = cause_number r.cause
 
 -- "its offset or, without one, the file's length"
-abbrev pub offset_of : FileVerdict → ℕ
-offset_of (Whole n) = n
-offset_of (Refused x at) = at
+abbrev pub offset_of : Result ℕ FileRefusal → ℕ
+offset_of (Ok n) = n
+offset_of (Err r) = r.offset

@@ -4,7 +4,7 @@ ghost use Rattle.message.specs.Call.{is_kind, fields_of, count_in};
 ghost use Rattle.message.specs.Offset.{itself, number_of};
 ghost use Rattle.message.specs.Named.{call_of, later_call_of, groups_of};
 
-use crate::{DeskCall, FileCause, Named, NumberRead, number};
+use crate::{DeskCall, FileCause, NumberRead, number};
 use quantity::{Day, PointNo, Version, limits};
 
 pub const OPENING: u64 = 1;
@@ -69,8 +69,8 @@ pub fn fields_of(kind: u64) -> usize
     0
 }
 
-// The call of a kind with its fields.
-pub fn call_of(kind: u64, fields: [u64; MOST_FIELDS]) -> Named
+// The call of a kind with its fields, none where there is no such kind.
+pub fn call_of(kind: u64, fields: [u64; MOST_FIELDS]) -> Option<DeskCall>
     ensures { result ≡ call_of kind fields }
 {
     let a = fields[0];
@@ -78,7 +78,7 @@ pub fn call_of(kind: u64, fields: [u64; MOST_FIELDS]) -> Named
     let c = fields[2];
     let d = fields[3];
     if kind == OPENING {
-        return Named::Known(DeskCall::Open {
+        return Some(DeskCall::Open {
             quarters: a,
             first: Day(b),
             clearing: Day(c),
@@ -86,7 +86,7 @@ pub fn call_of(kind: u64, fields: [u64; MOST_FIELDS]) -> Named
         });
     }
     if kind == ACTIVATION {
-        return Named::Known(DeskCall::Activate {
+        return Some(DeskCall::Activate {
             point: PointNo(a),
             kind: b,
             area: c,
@@ -95,7 +95,7 @@ pub fn call_of(kind: u64, fields: [u64; MOST_FIELDS]) -> Named
         });
     }
     if kind == DEACTIVATION {
-        return Named::Known(DeskCall::Deactivate {
+        return Some(DeskCall::Deactivate {
             point: PointNo(a),
             day: Day(b),
         });
@@ -103,18 +103,18 @@ pub fn call_of(kind: u64, fields: [u64; MOST_FIELDS]) -> Named
     later_call_of(kind, a, b, c, d)
 }
 
-fn later_call_of(kind: u64, a: u64, b: u64, c: u64, d: u64) -> Named
+fn later_call_of(kind: u64, a: u64, b: u64, c: u64, d: u64) -> Option<DeskCall>
     ensures { result ≡ later_call_of kind a b c d }
 {
     if kind == SUBMISSION {
-        return Named::Known(DeskCall::Submit {
+        return Some(DeskCall::Submit {
             point: PointNo(a),
             version: Version(b),
             day: Day(c),
         });
     }
     if kind == NOTICE {
-        return Named::Known(DeskCall::Notice {
+        return Some(DeskCall::Notice {
             point: PointNo(a),
             version: Version(b),
             verdict: c,
@@ -122,25 +122,25 @@ fn later_call_of(kind: u64, a: u64, b: u64, c: u64, d: u64) -> Named
         });
     }
     if kind == ASSIGNMENT {
-        return Named::Known(DeskCall::Assign {
+        return Some(DeskCall::Assign {
             area: a,
             group: b,
             day: Day(c),
         });
     }
     if kind == CLOSING {
-        return Named::Known(DeskCall::Close {
+        return Some(DeskCall::Close {
             run: a,
             day: Day(b),
         });
     }
     if kind == ISSUING {
-        return Named::Known(DeskCall::Issue {
+        return Some(DeskCall::Issue {
             run: a,
             day: Day(b),
         });
     }
-    Named::Unknown
+    None
 }
 
 // The 17 delta groups of an opening.
@@ -148,28 +148,20 @@ pub fn groups_of(fields: [u64; MOST_FIELDS]) -> [u64; limits::DELTAS as usize]
     ensures { result ≡ groups_of fields }
 {
     let mut groups = [0u64; limits::DELTAS as usize];
-    let mut i = 0;
-    while i < limits::DELTAS as usize {
-        groups[i] = fields[BEFORE_GROUPS + i];
-        i += 1;
-    }
+    groups.copy_from_slice(&fields[BEFORE_GROUPS..]);
     groups
 }
 
 // A count of energies, at most 2,980 and at most as many as there is room for.
-pub fn read_count(file: &[u8], at: usize, room: usize) -> NumberRead
+pub fn read_count(file: &[u8], at: usize, room: usize) -> Result<NumberRead, FileCause>
     ensures { result ≡ number_of itself (length file.now) (count_in room (drop at file.now)) }
 {
-    match number::read_number(file, at) {
-        NumberRead::Number { value, next } => {
-            if limits::QUARTERS < value {
-                return NumberRead::Refused(FileCause::TooLarge);
-            }
-            if (room as u64) < value {
-                return NumberRead::Refused(FileCause::NoRoom);
-            }
-            NumberRead::Number { value, next }
-        }
-        NumberRead::Refused(cause) => NumberRead::Refused(cause),
+    let count = number::read_number(file, at)?;
+    if limits::QUARTERS < count.value {
+        return Err(FileCause::TooLarge);
     }
+    if (room as u64) < count.value {
+        return Err(FileCause::NoRoom);
+    }
+    Ok(count)
 }

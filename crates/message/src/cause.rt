@@ -19,14 +19,16 @@ pub const TOO_LARGE: u64 = 34;
 // A series buffer or an output too short.
 pub const NO_ROOM: u64 = 35;
 
-pub fn number_of(cause: FileCause) -> u64
-    ensures { result ≡ cause_number cause }
-{
-    match cause {
-        FileCause::Cut => CUT,
-        FileCause::NotShortest => NOT_SHORTEST,
-        FileCause::BadKind => BAD_KIND,
-        FileCause::TooLarge => TOO_LARGE,
-        FileCause::NoRoom => NO_ROOM,
+impl From<FileCause> for u64 {
+    ghost from_gives = { λ cause number. number ≡ cause_number cause };
+
+    fn from(cause: FileCause) -> u64 {
+        match cause {
+            FileCause::Cut => CUT,
+            FileCause::NotShortest => NOT_SHORTEST,
+            FileCause::BadKind => BAD_KIND,
+            FileCause::TooLarge => TOO_LARGE,
+            FileCause::NoRoom => NO_ROOM,
+        }
     }
 }

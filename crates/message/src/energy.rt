@@ -3,13 +3,10 @@ ghost use Rattle.std.specs.Prelude.{◌≡◌};
 ghost use Rattle.quantity.specs.Word.{word, signed};
 ghost use Rattle.message.specs.Energy.{sent, received};
 
-use quantity::WattHours;
+use quantity::{WattHours, word};
 
 // The largest word: all bits set, which is -1.
 const MINUS_ONE: u64 = 0xffff_ffff_ffff_ffff;
-
-// The words from here on are those of negative energies.
-const NEGATIVE: u64 = 0x8000_0000_0000_0000;
 
 pub fn received_of(n: u64) -> WattHours
     ensures { result.0 ≡ word (received n) }
@@ -25,9 +22,9 @@ pub fn sent_of(energy: WattHours) -> u64
     ensures { result ≡ sent (signed energy.0) }
 {
     let w = energy.0;
-    if w < NEGATIVE {
-        2 * w
-    } else {
+    if word::is_negative(energy) {
         2 * (MINUS_ONE - w) + 1
+    } else {
+        2 * w
     }
 }

@@ -26,25 +26,18 @@ pub enum FileCause {
     NoRoom,
 }
 
+// A refusal, and the offset of the refused call.
+#[derive(Clone, Copy)]
+pub struct FileRefusal {
+    pub cause: FileCause,
+    pub offset: usize,
+}
+
 // A number of the file and the offset behind it.
 #[derive(Clone, Copy)]
-pub enum NumberRead {
-    Number { value: u64, next: usize },
-    Refused(FileCause),
-}
-
-// A number that is known to stand in the file, and the offset behind it.
-#[derive(Clone, Copy)]
-pub struct Known {
+pub struct NumberRead {
     pub value: u64,
     pub next: usize,
-}
-
-// The offset behind what was passed over.
-#[derive(Clone, Copy)]
-pub enum Passed {
-    To(usize),
-    Refused(FileCause),
 }
 
 // A block of bytes: whether no byte of it makes a number that is refused, and how many have their top bit set.
@@ -59,13 +52,6 @@ pub struct Block {
 pub struct Reached {
     pub numbers: usize,
     pub at: usize,
-}
-
-// The verdict on a whole file: its length, or the first refusal with the offset of the refused call.
-#[derive(Clone, Copy)]
-pub enum FileVerdict {
-    Whole { length: usize },
-    Refused { cause: FileCause, offset: usize },
 }
 
 // A call of the desk by its kind, with its fields; an opening's 17 delta groups and a submission's energies stand beside it.
@@ -112,11 +98,4 @@ pub enum DeskCall {
         run: u64,
         day: Day,
     },
-}
-
-// The call that a kind and fields are, or none of that kind.
-#[derive(Clone, Copy)]
-pub enum Named {
-    Known(DeskCall),
-    Unknown,
 }

@@ -4,7 +4,7 @@ ghost use Rattle.message.specs.Number.{decode, numbers_in};
 ghost use Rattle.message.specs.Offset.{passed_of};
 ghost use Rattle.message.specs.Block.{goes_on, standing, sound_to, more_to, begin_of, Reaches};
 
-use crate::{Block, FileCause, NumberRead, Passed, Reached, number};
+use crate::{Block, FileCause, Reached, number};
 
 // A byte from here on has its top bit set.
 const TOP: u8 = 128;
@@ -20,10 +20,7 @@ pub const ROOMY: usize = 16;
 fn top_bit(b: u8) -> u8
     ensures { (result ≡ goes_on b) × (result ≤ 1) }
 {
-    if b < TOP {
-        return 0;
-    }
-    1
+    u8::from(TOP <= b)
 }
 
 // A byte behind eight others makes no number that is refused.
@@ -42,8 +39,7 @@ fn pass_block(file: &[u8], from: usize) -> Block
 {
     let mut sound = true;
     let mut more: u8 = 0;
-    let mut t = 0;
-    while t < BLOCK {
+    for t in 0..BLOCK {
         let k = from + t;
         let last = file[k + 8];
         sound = sound
@@ -59,7 +55,6 @@ fn pass_block(file: &[u8], from: usize) -> Block
                 last,
             );
         more += top_bit(last);
-        t += 1;
     }
     Block { sound, more }
 }
@@ -77,12 +72,6 @@ fn begin_of(file: &[u8], at: usize) -> usize
         j -= 1;
     }
     0
-}
-
-fn size_of(x: u8) -> usize
-    ensures { result ≡ x }
-{
-    x as usize
 }
 
 // As many of n numbers as blocks of bytes hold, none where a block has a number that is refused. Each block is in all numbers: it ends at most 32 of them.
@@ -109,7 +98,7 @@ fn pass_blocks(file: &[u8], at: usize, n: usize) -> Reached
         if !block.sound {
             return Reached { numbers: 0, at };
         }
-        i += BLOCK - size_of(block.more);
+        i += BLOCK - usize::from(block.more);
         j += BLOCK;
     }
     Reached {
@@ -118,99 +107,64 @@ fn pass_blocks(file: &[u8], at: usize, n: usize) -> Reached
     }
 }
 
-// The offset behind a number whose first byte has its top bit set.
-fn pass_long(file: &[u8], at: usize) -> Passed
-    requires { (at < length file.now) × (128 ≤ get_or file.now at 0) }
+// The offset behind a number, whatever its bytes.
+fn pass_any(file: &[u8], at: usize) -> Result<usize, FileCause>
     ensures { result ≡ passed_of (length file.now) (decode (drop at file.now)) }
 {
-    let mut i: u64 = 1;
-    let mut j = at + 1;
-    while i < number::MOST_BYTES {
-        if file.len() <= j {
-            return Passed::Refused(FileCause::Cut);
-        }
-        let b = file[j];
-        j += 1;
-        if b < TOP {
-            if b == 0 {
-                return Passed::Refused(FileCause::NotShortest);
-            }
-            return Passed::To(j);
-        }
-        i += 1;
-    }
-    Passed::Refused(FileCause::NotShortest)
+    Ok(number::read_number(file, at)?.next)
 }
 
 // The offset behind a number, with no call where it has one to three bytes.
-fn pass_one(file: &[u8], at: usize) -> Passed
+fn pass_one(file: &[u8], at: usize) -> Result<usize, FileCause>
     requires { at + 3 ≤ length file.now }
     ensures { result ≡ passed_of (length file.now) (decode (drop at file.now)) }
 {
     if file[at] < TOP {
-        return Passed::To(at + 1);
+        return Ok(at + 1);
     }
     let b = file[at + 1];
     if b == 0 {
-        return pass_long(file, at);
+        return pass_any(file, at);
     }
     if b < TOP {
-        return Passed::To(at + 2);
+        return Ok(at + 2);
     }
     let c = file[at + 2];
     if c == 0 {
-        return pass_long(file, at);
+        return pass_any(file, at);
     }
     if c < TOP {
-        return Passed::To(at + 3);
+        return Ok(at + 3);
     }
-    pass_long(file, at)
+    pass_any(file, at)
 }
 
 // The offset behind n numbers that the file has room for, whatever their bytes.
-pub fn pass_inside(file: &[u8], at: usize, n: usize) -> Passed
+pub fn pass_inside(file: &[u8], at: usize, n: usize) -> Result<usize, FileCause>
     requires { at + 16 * n ≤ length file.now }
     ensures { result ≡ passed_of (length file.now) (numbers_in n (drop at file.now)) }
 {
     let mut j = at;
-    let mut i = 0;
-    while i < n {
-        match pass_one(file, j) {
-            Passed::To(next) => {
-                j = next;
-            }
-            Passed::Refused(cause) => {
-                return Passed::Refused(cause);
-            }
-        }
-        i += 1;
+    for _ in 0..n {
+        j = pass_one(file, j)?;
     }
-    Passed::To(j)
+    Ok(j)
 }
 
 // The offset behind n numbers, by one call a number: for what stands near the file's end.
-pub fn pass_near(file: &[u8], at: usize, n: usize) -> Passed
+pub fn pass_near(file: &[u8], at: usize, n: usize) -> Result<usize, FileCause>
     requires { at ≤ length file.now }
     ensures { result ≡ passed_of (length file.now) (numbers_in n (drop at file.now)) }
 {
     let mut j = at;
-    let mut i = 0;
-    while i < n {
-        match number::read_number(file, j) {
-            NumberRead::Number { value: _, next } => {
-                j = next;
-            }
-            NumberRead::Refused(cause) => {
-                return Passed::Refused(cause);
-            }
-        }
-        i += 1;
+    for _ in 0..n {
+        j = pass_any(file, j)?;
     }
-    Passed::To(j)
+    Ok(j)
 }
 
 // The offset behind n numbers, from an offset in the file.
-fn pass_from(file: &[u8], at: usize, n: usize) -> Passed
+fn pass_from(file: &[u8], at: usize, n: usize) -> Result<usize, FileCause>
     requires { at ≤ length file.now }
     ensures { result ≡ passed_of (length file.now) (numbers_in n (drop at file.now)) }
 {
@@ -221,7 +175,7 @@ fn pass_from(file: &[u8], at: usize, n: usize) -> Passed
 }
 
 // The offset behind n numbers; an offset beyond the file's end counts as the end.
-pub fn pass_numbers(file: &[u8], at: usize, n: usize) -> Passed
+pub fn pass_numbers(file: &[u8], at: usize, n: usize) -> Result<usize, FileCause>
     ensures { result ≡ passed_of (length file.now) (numbers_in n (drop at file.now)) }
 {
     if file.len() < at {

@@ -1,25 +1,24 @@
 -- An accepted call has passed every line of the table, and is granted. Assumes nothing.
 use mathlib.Core.Path.{◌≡◌, refl}
 use mathlib.Core.List.{List, ◌∷◌}
+use Rattle.std.specs.Prelude.{Ok, Err}
 use Rattle.state.specs.declared.Desk.{Desk}
 use Rattle.model.specs.Call.{Lent, Told, told}
-use Rattle.model.specs.Causes.{rules, refusal}
+use Rattle.model.specs.Causes.{rules, refusal, Ruling}
 use Rattle.model.specs.Laws.{Passed}
 use Rattle.model.specs.Plain.{view_in, granted, answered, joined, plain_reply, plain_next}
 use Rattle.model.specs.Replies.{IsAccepted}
 use Rattle.model.specs.Step.{lines, granting, refusal_by, decided, step}
-use Rattle.model.specs.declared.Ruling.{Ruling}
-use Rattle.model.specs.declared.Ruling.TheVariants.{Fine, Refuse}
 use Rattle.model.proofs.Rules.{passed}
 
 module _ (d : Desk) (l : Lent) (ok : IsAccepted (step d l).answer) where
-  fine : refusal_by d (told l) ≡ Fine
+  fine : refusal_by d (told l) ≡ Ok tt
   unfolding step decided
   fine = go (refusal_by d (told l)) refl ok
     where
-      go : (v : Ruling) → refusal_by d (told l) ≡ v → IsAccepted (decided v d l.stores l.call).answer → refusal_by d (told l) ≡ Fine
-      go Fine e k = e
-      go (Refuse x) e k = absurd (k x refl)
+      go : (v : Ruling) → refusal_by d (told l) ≡ v → IsAccepted (decided v d l.stores l.call).answer → refusal_by d (told l) ≡ Ok tt
+      go (Ok tt) e k = e
+      go (Err x) e k = absurd (k x refl)
 
   pub lines-passed : Passed (lines d (told l))
   unfolding refusal_by
@@ -30,13 +29,13 @@ module _ (d : Desk) (l : Lent) (ok : IsAccepted (step d l).answer) where
   is-granted = rw fine
 
 module _ (h : List Told) (t : Told) (ok : IsAccepted (plain_reply h t).answer) where
-  plain-fine : refusal (view_in h) t ≡ Fine
+  plain-fine : refusal (view_in h) t ≡ Ok tt
   unfolding plain_reply answered
   plain-fine = go (refusal (view_in h) t) refl ok
     where
-      go : (v : Ruling) → refusal (view_in h) t ≡ v → IsAccepted (answered v h t.call).answer → refusal (view_in h) t ≡ Fine
-      go Fine e k = e
-      go (Refuse x) e k = absurd (k x refl)
+      go : (v : Ruling) → refusal (view_in h) t ≡ v → IsAccepted (answered v h t.call).answer → refusal (view_in h) t ≡ Ok tt
+      go (Ok tt) e k = e
+      go (Err x) e k = absurd (k x refl)
 
   pub plain-passed : Passed (rules (view_in h) t.lengths t.call)
   unfolding refusal

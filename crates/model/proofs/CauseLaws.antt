@@ -4,30 +4,28 @@ use Prim.Native.Nat.{ℕ}
 use mathlib.Core.Path.{◌≡◌, refl, sym, ap, ◌∙◌}
 use mathlib.Core.Bool.{false, true≢false}
 use native.Mathlib.Omega.{arith}
+use Rattle.std.specs.Prelude.{Ok, Err, Option, Some, None}
 use Rattle.state.specs.Desk.{versions_in}
 use Rattle.state.specs.Version.{held}
 use Rattle.state.specs.declared.Desk.{Desk}
-use Rattle.state.specs.declared.Held.{Held}
-use Rattle.state.specs.declared.Held.TheVariants.{Absent, Has}
+use Rattle.state.specs.declared.HeldVersion.{HeldVersion}
 use Rattle.model.specs.Call.{Call, opens, activates, deactivates, submits, notices, assigns, shows, asks, closes, issues, lodges, reports, Stores, lengths_of, Lent, told}
-use Rattle.model.specs.Causes.{rules, is_absent}
+use Rattle.model.specs.Causes.{rules, is_absent, Ruling}
 use Rattle.model.specs.Laws.{Passed, Decides}
 use Rattle.model.specs.Step.{lines, status_answer, granting, refusal_by, decided, step}
 use Rattle.model.specs.View.{view_of}
 use Rattle.model.specs.declared.Answer.TheVariants.{Accepted, Refused}
 use Rattle.model.specs.declared.Cause.{Cause}
-use Rattle.model.specs.declared.Ruling.{Ruling}
-use Rattle.model.specs.declared.Ruling.TheVariants.{Fine, Refuse}
 use Rattle.model.proofs.Accepting.{lines-passed}
 use Rattle.model.proofs.Rules.{not-refused, passed, passed-fine, past, first-decides, decides-first}
 
 -- ---- each cause both ways, on a desk in any state
 
 -- a version that the table found is answered with its status
-pub status-found : {A : Type 0} (h : Held) (x : Cause) → is_absent h ≡ false → status_answer h ≡ Refused x → A
+pub status-found : {A : Type 0} (h : Option HeldVersion) (x : Cause) → is_absent h ≡ false → status_answer h ≡ Refused x → A
 unfolding is_absent status_answer
-status-found Absent x n e = absurd (true≢false n)
-status-found (Has i s) x n e = let z : ◌≡◌ {A = ℕ} 0 1 = cc in absurd (omega arith)
+status-found None x n e = absurd (true≢false n)
+status-found (Some h) x n e = let z : ◌≡◌ {A = ℕ} 0 1 = cc in absurd (omega arith)
 
 -- a call of which no line holds is accepted
 granted-fine : {A : Type 0} (d : Desk) (s : Stores) (c : Call) (x : Cause) → Passed (rules (view_of d) (lengths_of s) c) → (granting d s c).answer ≡ Refused x → A
@@ -55,8 +53,8 @@ module _ (d : Desk) (l : Lent) where
   step-refused x e = go (refusal_by d (told l)) refl e
     where
       go : (v : Ruling) → refusal_by d (told l) ≡ v → (decided v d l.stores l.call).answer ≡ Refused x → Decides x (lines d (told l))
-      go Fine z e = granted-fine d l.stores l.call x (passed (lines d (told l)) z).1 e
-      go (Refuse y) z e = let same : y ≡ x = cc in first-decides (lines d (told l)) x (z ∙ ap Refuse same)
+      go (Ok tt) z e = granted-fine d l.stores l.call x (passed (lines d (told l)) z).1 e
+      go (Err y) z e = let same : y ≡ x = cc in first-decides (lines d (told l)) x (z ∙ ap Err same)
 
   -- and then it is
   pub step-refuses : (x : Cause) → Decides x (lines d (told l)) → (step d l).answer ≡ Refused x

@@ -9,14 +9,14 @@ use borrow.Author.Tests.{eqb-true, not-false}
 use lib.Dec.{leb, eqb}
 use lib.ListN.{length, length-set}
 use lib.Seq.{get_or-set_same, get_or-set_other}
+use Rattle.std.specs.Prelude.{Option, Some, None}
 use Rattle.quantity.specs.Lists.{fold}
 use Rattle.quantity.proofs.Tests.{by-test, and-left, and-right}
 use Rattle.state.specs.Change.{confirm, settle, settled_by}
 use Rattle.state.specs.Selection.{own, with_status, SameVersion, version_of}
 use Rattle.state.specs.Status.{is_check, counts, submitted_status, confirmed_status, settled_status}
 use Rattle.state.specs.Version.{record_at, empty_version, new_version, restatus, held, HeldIn}
-use Rattle.state.specs.declared.Held.{Held}
-use Rattle.state.specs.declared.Held.TheVariants.{Absent, Has}
+use Rattle.state.specs.declared.HeldVersion.{HeldVersion}
 use Rattle.state.specs.declared.Selection.TheVariants.{Selected}
 use Rattle.state.specs.declared.Status.{Status}
 use Rattle.state.specs.declared.Status.TheVariants.{Check, Settlement, Correction}
@@ -39,24 +39,24 @@ unfolding after fold
 notice-none w n p x y d ne = notice-negative w.opening.clearing.0 p x y d w.versions ne
 
 -- of the version found among the first n of a table
-pub confirmed : (c p x d n : ℕ) (vs : List VersionRecord) (h : Held) → not_check h ≡ false → HeldIn p x vs n h → n ≤ length vs → Confirms p x (confirmed_status c d) vs (confirm c 1 d h vs)
+pub confirmed : (c p x d n : ℕ) (vs : List VersionRecord) (h : Option HeldVersion) → not_check h ≡ false → HeldIn p x vs n h → n ≤ length vs → Confirms p x (confirmed_status c d) vs (confirm c 1 d h vs)
 unfolding not_check
-confirmed c p x d n vs Absent e q few = absurd (true≢false e)
-confirmed c p x d n vs (Has i v) e q few =
-    let check : is_check v.status ≡ true = not-false (is_check v.status) e in
-    let u = restatus (confirmed_status c d) v in
-    let within : i < length vs = omega (arith, q.within) in
+confirmed c p x d n vs None e q few = absurd (true≢false e)
+confirmed c p x d n vs (Some h) e q few =
+    let check : is_check h.record.status ≡ true = not-false (is_check h.record.status) e in
+    let u = restatus (confirmed_status c d) h.record in
+    let within : h.at < length vs = omega (arith, q.within) in
     record {
-      at = i;
+      at = h.at;
       named = q.found;
       check = ap (λ (r : VersionRecord). is_check r.status) q.here ∙ check;
       restates =
           rw check
           (record {
             within = within;
-            there = get_or-set_same vs i u empty_version within ∙ ap (restatus (confirmed_status c d)) (sym q.here);
-            others = λ j ne. get_or-set_other vs i j u empty_version ne;
-            size = length-set vs i u;
+            there = get_or-set_same vs h.at u empty_version within ∙ ap (restatus (confirmed_status c d)) (sym q.here);
+            others = λ j ne. get_or-set_other vs h.at j u empty_version ne;
+            size = length-set vs h.at u;
           });
     }
 

@@ -6,6 +6,7 @@ use mathlib.Core.List.{List}
 use native.Mathlib.Omega.{arith}
 use lib.IntN.{ℤ}
 use lib.ListN.{length}
+use Rattle.std.specs.Prelude.{Option}
 use Rattle.quantity.specs.Limits.{points, day_ok}
 use Rattle.state.specs.Desk.{versions_in}
 use Rattle.state.specs.Selection.{own}
@@ -21,7 +22,7 @@ use Rattle.model.specs.Plain.{worked, log_of, schedules_of}
 use Rattle.model.specs.Series.{figure_of}
 use Rattle.model.specs.Step.{followed, with_schedules}
 use Rattle.model.specs.View.{view_of}
-use Rattle.model.specs.declared.Due.{Due}
+use Rattle.model.specs.declared.LogRow.{LogRow}
 use Rattle.model.proofs.Amends.{Stored, follow}
 use Rattle.model.proofs.Books.{Booked}
 use Rattle.model.proofs.Invariant.{Holds, Kept, Versioned, Done, book-is, holds-open}
@@ -53,7 +54,7 @@ module _ (d : Desk) (s : Stores) (h : List Told) (H : Holds d s h) where
         scheduled = K.scheduled;
       }
     where
-      used-after : (o : Due) → used_after o d.frame.used ≡ length (add_row o (log_of h))
+      used-after : (o : Option LogRow) → used_after o d.frame.used ≡ length (add_row o (log_of h))
       used-after o = ap (used_after o) H.used ∙ used-rows o (log_of h)
 
 -- the stores that such a call leaves are all kept

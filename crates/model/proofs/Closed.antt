@@ -8,7 +8,6 @@ use Rattle.state.specs.Desk.{versions_in, flag_of}
 use Rattle.state.specs.Selection.{own, SameVersion}
 use Rattle.model.specs.Agreement.{Chained, end, fresh}
 use Rattle.model.specs.Call.{Stores, Lent, Told, told}
-use Rattle.model.specs.Causes.{deadline}
 use Rattle.model.specs.Laws.{StaysClosed}
 use Rattle.model.specs.Plain.{versions_of, closed_of, issued_of, plain_end, worked_out}
 use Rattle.model.proofs.Corollaries.{reached}

@@ -7,6 +7,7 @@ use mathlib.Core.List.{List, [], map}
 use native.Mathlib.Omega.{arith}
 use lib.Dec.{eqb}
 use lib.IntN.{nat_abs}
+use Rattle.std.specs.Prelude.{Ok, Err, Option, Some, None}
 use Rattle.quantity.specs.Limits.{points, runs, run_rows, most_energy}
 use Rattle.quantity.specs.Lists.{all, fold}
 use Rattle.state.specs.Change.{submitted, noticed}
@@ -14,11 +15,10 @@ use Rattle.state.specs.Desk.{is_open, open_desk, versions_in}
 use Rattle.state.specs.Valid.{valid_desk}
 use Rattle.state.specs.Version.{held}
 use Rattle.state.specs.declared.Desk.{Desk}
-use Rattle.state.specs.declared.Held.{Held}
-use Rattle.state.specs.declared.Held.TheVariants.{Absent, Has}
+use Rattle.state.specs.declared.HeldVersion.{HeldVersion}
 use Rattle.model.specs.Agreement.{Running, Chained, end, fresh, book_figure}
 use Rattle.model.specs.Call.{Call, opens, activates, deactivates, submits, notices, assigns, shows, asks, closes, issues, lodges, reports, Stores, Lengths, lengths_of, Lent, Told, told, telling, cause_number}
-use Rattle.model.specs.Causes.{Rule, opening_by}
+use Rattle.model.specs.Causes.{Rule, opening_by, Ruling}
 use Rattle.model.specs.Demands.{Alike, Blind}
 use Rattle.model.specs.Log.{due}
 use Rattle.model.specs.Plain.{plain_end, figure, points_of, groups_of, worked_out, after}
@@ -27,9 +27,6 @@ use Rattle.model.specs.declared.Answer.{Answer}
 use Rattle.model.specs.declared.Answer.TheVariants.{Refused}
 use Rattle.model.specs.declared.Cause.{Cause}
 use Rattle.model.specs.declared.Cause.TheVariants.{NotOpen, NoVersion}
-use Rattle.model.specs.declared.Due.TheVariants.{Nothing}
-use Rattle.model.specs.declared.Ruling.{Ruling}
-use Rattle.model.specs.declared.Ruling.TheVariants.{Fine, Refuse}
 use Rattle.model.proofs.Ends.{small-figure}
 use Rattle.model.proofs.Figures.{figure-none}
 use Rattle.model.proofs.Fresh.{State, early, holding}
@@ -62,10 +59,10 @@ book_small s l c run k q a b d e = rw ((agree s l c).figures run k q a b d e) (f
 other-cause : {A : Type 0} → ◌≡◌ {A = Answer} (Refused NoVersion) (Refused NotOpen) → A
 other-cause e = let z : ◌≡◌ {A = ℕ} 0 1 = cc in absurd (omega arith)
 
-status-else : {A : Type 0} (h : Held) → status_answer h ≡ Refused NotOpen → A
+status-else : {A : Type 0} (h : Option HeldVersion) → status_answer h ≡ Refused NotOpen → A
 unfolding status_answer
-status-else Absent e = other-cause e
-status-else (Has i s) e = let z : ◌≡◌ {A = ℕ} 0 1 = cc in absurd (omega arith)
+status-else None e = other-cause e
+status-else (Some h) e = let z : ◌≡◌ {A = ℕ} 0 1 = cc in absurd (omega arith)
 
 granted-else : {A : Type 0} (d : Desk) (s : Stores) (c : Call) → (granting d s c).answer ≡ Refused NotOpen → A
 granted-else d s (opens q f c k gs) e = not-refused NotOpen e
@@ -107,10 +104,10 @@ unfolding step decided refusal_by
 opened-else {A} d s h x H e = go (refusal_by d (told x)) refl e
   where
     go : (v : Ruling) → refusal_by d (told x) ≡ v → (decided v d x.stores x.call).answer ≡ Refused NotOpen → A
-    go Fine z e = granted-else d x.stores x.call e
-    go (Refuse y) z e =
+    go (Ok tt) z e = granted-else d x.stores x.call e
+    go (Err y) z e =
         let same : y ≡ NotOpen = cc in
-        absurd (false≢true (refused-among other _ (never-one d (lengths_of x.stores) x.call (holds-valid d s h H) (holds-open d s h H)) NotOpen (z ∙ ap Refuse same)))
+        absurd (false≢true (refused-among other _ (never-one d (lengths_of x.stores) x.call (holds-valid d s h H) (holds-open d s h H)) NotOpen (z ∙ ap Err same)))
 
 state-one : (r : Running) (h : List Told) (x : Lent) → State r h → (step r.desk x).answer ≡ Refused NotOpen → is_open r.desk.frame.opening ≡ false
 state-one r h x (early a b) e = rw a refl
@@ -122,25 +119,25 @@ only-not-open s l x c e = state-one (end (fresh s) l) (plain_end [] (map told l)
 -- ---- "Answer numbers, statuses and log rows never depend on what the stores hold"
 
 granted-blind : (d : Desk) (c : Call) (s t : Stores) → lengths_of s ≡ lengths_of t → Alike d s t (granting d s c) (granting d t c)
-granted-blind d (opens q f c k gs) s t e = record { answer = refl; desk = ap (λ (n : Lengths). open_desk (opening_by q f c k n) gs) e; row = Nothing; log = refl; other_log = refl }
-granted-blind d (activates p k a b day) s t e = record { answer = refl; desk = refl; row = Nothing; log = refl; other_log = refl }
-granted-blind d (deactivates p day) s t e = record { answer = refl; desk = refl; row = Nothing; log = refl; other_log = refl }
+granted-blind d (opens q f c k gs) s t e = record { answer = refl; desk = ap (λ (n : Lengths). open_desk (opening_by q f c k n) gs) e; row = None; log = refl; other_log = refl }
+granted-blind d (activates p k a b day) s t e = record { answer = refl; desk = refl; row = None; log = refl; other_log = refl }
+granted-blind d (deactivates p day) s t e = record { answer = refl; desk = refl; row = None; log = refl; other_log = refl }
 granted-blind d (submits p x day es) s t e =
     record { answer = refl; desk = refl; row = due (versions_in d) (submitted (version_by d p x day) (versions_in d)) p day; log = refl; other_log = refl }
 granted-blind d (notices p x y day) s t e =
     record { answer = refl; desk = refl; row = due (versions_in d) (noticed d.frame.opening.clearing.0 p x y day (versions_in d)) p day; log = refl; other_log = refl }
-granted-blind d (assigns a g day) s t e = record { answer = refl; desk = refl; row = Nothing; log = refl; other_log = refl }
-granted-blind d (shows r g) s t e = record { answer = refl; desk = refl; row = Nothing; log = refl; other_log = refl }
-granted-blind d (asks p x) s t e = record { answer = refl; desk = refl; row = Nothing; log = refl; other_log = refl }
-granted-blind d (closes r day) s t e = record { answer = refl; desk = refl; row = Nothing; log = refl; other_log = refl }
-granted-blind d (issues r day) s t e = record { answer = refl; desk = refl; row = Nothing; log = refl; other_log = refl }
-granted-blind d (lodges g day es) s t e = record { answer = refl; desk = refl; row = Nothing; log = refl; other_log = refl }
-granted-blind d (reports r g) s t e = record { answer = refl; desk = refl; row = Nothing; log = refl; other_log = refl }
+granted-blind d (assigns a g day) s t e = record { answer = refl; desk = refl; row = None; log = refl; other_log = refl }
+granted-blind d (shows r g) s t e = record { answer = refl; desk = refl; row = None; log = refl; other_log = refl }
+granted-blind d (asks p x) s t e = record { answer = refl; desk = refl; row = None; log = refl; other_log = refl }
+granted-blind d (closes r day) s t e = record { answer = refl; desk = refl; row = None; log = refl; other_log = refl }
+granted-blind d (issues r day) s t e = record { answer = refl; desk = refl; row = None; log = refl; other_log = refl }
+granted-blind d (lodges g day es) s t e = record { answer = refl; desk = refl; row = None; log = refl; other_log = refl }
+granted-blind d (reports r g) s t e = record { answer = refl; desk = refl; row = None; log = refl; other_log = refl }
 
 decided-blind : (v : Ruling) (d : Desk) (c : Call) (s t : Stores) → lengths_of s ≡ lengths_of t → Alike d s t (decided v d s c) (decided v d t c)
 unfolding decided
-decided-blind Fine d c s t e = granted-blind d c s t e
-decided-blind (Refuse x) d c s t e = record { answer = refl; desk = refl; row = Nothing; log = refl; other_log = refl }
+decided-blind (Ok tt) d c s t e = granted-blind d c s t e
+decided-blind (Err x) d c s t e = record { answer = refl; desk = refl; row = None; log = refl; other_log = refl }
 
 pub step-blind : Blind
 unfolding step

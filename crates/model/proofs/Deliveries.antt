@@ -6,24 +6,24 @@ use mathlib.Core.List.{List, [], ◌∷◌}
 use native.Mathlib.Omega.{arith}
 use lib.Dec.{eqb}
 use lib.ListN.{length, set, length-set, length-map, length-append}
+use Rattle.std.specs.Prelude.{Option, Some, None}
 use Rattle.quantity.specs.Lists.{fold}
 use Rattle.quantity.proofs.Tests.{by-test}
 use Rattle.state.specs.Change.{confirm, settle}
 use Rattle.state.specs.Status.{is_check, confirmed_status}
 use Rattle.state.specs.Version.{new_version, restatus, held}
-use Rattle.state.specs.declared.Held.{Held}
-use Rattle.state.specs.declared.Held.TheVariants.{Absent, Has}
+use Rattle.state.specs.declared.HeldVersion.{HeldVersion}
 use Rattle.state.specs.declared.VersionRecord.{VersionRecord}
 use Rattle.model.specs.Call.{Call, opens, activates, deactivates, submits, notices, assigns, shows, asks, closes, issues, lodges, reports, Lengths, Told, telling}
 use Rattle.model.specs.Laws.{submission_by, submissions}
 use Rattle.model.specs.Plain.{Worked, versions_of, energies_of, worked_out, after}
 
 -- a notice makes no version
-length-confirmed : (c y d : ℕ) (h : Held) (vs : List VersionRecord) → length (confirm c y d h vs) ≡ length vs
-length-confirmed c y d Absent vs = refl
-length-confirmed c y d (Has i v) vs =
-    by-test (λ (ws : List VersionRecord). length ws ≡ length vs) (eqb y 1 && is_check v.status) (set vs i (restatus (confirmed_status c d) v)) vs
-    (λ _. length-set vs i (restatus (confirmed_status c d) v)) (λ _. refl)
+length-confirmed : (c y d : ℕ) (h : Option HeldVersion) (vs : List VersionRecord) → length (confirm c y d h vs) ≡ length vs
+length-confirmed c y d None vs = refl
+length-confirmed c y d (Some h) vs =
+    by-test (λ (ws : List VersionRecord). length ws ≡ length vs) (eqb y 1 && is_check h.record.status) (set vs h.at (restatus (confirmed_status c d) h.record)) vs
+    (λ _. length-set vs h.at (restatus (confirmed_status c d) h.record)) (λ _. refl)
 
 -- a call makes one if it is a submission, else none
 delivers : (w : Worked) (n : Lengths) (c : Call) → length (after (telling n c) w).versions ≡ submission_by c + length w.versions

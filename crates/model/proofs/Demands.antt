@@ -2,9 +2,10 @@
 use Prim.Native.Nat.{ℕ}
 use mathlib.Core.Path.{◌≡◌, refl, ap}
 use mathlib.Core.List.{List, [], ◌∷◌, ◌++◌, map}
+use Rattle.std.specs.Prelude.{Ok, Err, Option, Some, None}
+use Rattle.model.specs.Causes.{Ruling}
 use Rattle.state.specs.declared.Desk.{Desk}
-use Rattle.state.specs.declared.Held.{Held}
-use Rattle.state.specs.declared.Held.TheVariants.{Absent, Has}
+use Rattle.state.specs.declared.HeldVersion.{HeldVersion}
 use Rattle.state.specs.Desk.{versions_in}
 use Rattle.state.specs.Version.{held}
 use Rattle.model.specs.Agreement.{Running, Chained, next, replies, end, fresh, Agree}
@@ -14,18 +15,16 @@ use Rattle.model.specs.Plain.{plain_replies, plain_end}
 use Rattle.model.specs.Step.{status_answer, granting, refusal_by, decided, step}
 use Rattle.model.specs.declared.Answer.TheVariants.{Refused}
 use Rattle.model.specs.declared.Cause.{Cause}
-use Rattle.model.specs.declared.Ruling.{Ruling}
-use Rattle.model.specs.declared.Ruling.TheVariants.{Fine, Refuse}
 use Rattle.model.proofs.Main.{agree}
 use Rattle.model.proofs.Rules.{not-refused}
 use Rattle.model.proofs.TableLaw.{step-by-table}
 
 -- ---- demand 1
 
-status-granted : (p x : ℕ) (h : Held) → Granted (asks p x) (status_answer h)
+status-granted : (p x : ℕ) (h : Option HeldVersion) → Granted (asks p x) (status_answer h)
 unfolding status_answer
-status-granted p x Absent = tt
-status-granted p x (Has i s) = refl
+status-granted p x None = tt
+status-granted p x (Some h) = refl
 
 granted-so : (d : Desk) (s : Stores) (c : Call) → Granted c (granting d s c).answer
 granted-so d s (opens q f c k gs) = refl
@@ -47,8 +46,8 @@ unfolding step decided
 granted d l = go (refusal_by d (told l))
   where
     go : (v : Ruling) → Granted l.call (decided v d l.stores l.call).answer
-    go Fine = granted-so d l.stores l.call
-    go (Refuse x) = tt
+    go (Ok tt) = granted-so d l.stores l.call
+    go (Err x) = tt
 
 granted-keeps : (d : Desk) (s : Stores) (c : Call) (x : Cause) → (granting d s c).answer ≡ Refused x → Untouched d s (granting d s c)
 granted-keeps d s (opens q f c k gs) x e = not-refused x e
@@ -70,8 +69,8 @@ unfolding step decided
 refused-keeps d l x e = go (refusal_by d (told l)) e
   where
     go : (v : Ruling) → (decided v d l.stores l.call).answer ≡ Refused x → Untouched d l.stores (decided v d l.stores l.call)
-    go Fine e = granted-keeps d l.stores l.call x e
-    go (Refuse y) e = record { desk = refl; stores = refl; part = refl; surplus = refl; shortfall = refl }
+    go (Ok tt) e = granted-keeps d l.stores l.call x e
+    go (Err y) e = record { desk = refl; stores = refl; part = refl; surplus = refl; shortfall = refl }
 
 pub demand-one : (d : Desk) (l : Lent) → DemandOne d l
 demand-one d l = record { answers = step-by-table d l.stores l.call; granted = granted d l; keeps = refused-keeps d l }

@@ -10,6 +10,7 @@ use lib.Dec.{leb, eqb}
 use lib.IntN.{ℤ, pos}
 use lib.ListN.{length, take, drop, get_or, replicate, length-map, length-take, get_or-map, length-replicate, get_or-replicate}
 use lib.Seq.{length-take-le, get_or-append-add, get_or-drop}
+use Rattle.std.specs.Prelude.{Option, Some, None}
 use Rattle.quantity.specs.Limits.{point_ok}
 use Rattle.quantity.specs.Lists.{fold}
 use Rattle.quantity.specs.Word.{word}
@@ -24,8 +25,7 @@ use Rattle.state.specs.Valid.{opening_ok, valid_desk}
 use Rattle.state.specs.Version.{empty_version, held}
 use Rattle.state.specs.Walk.{map_first}
 use Rattle.state.specs.declared.Desk.{Desk}
-use Rattle.state.specs.declared.Held.{Held}
-use Rattle.state.specs.declared.Held.TheVariants.{Absent, Has}
+use Rattle.state.specs.declared.HeldVersion.{HeldVersion}
 use Rattle.state.specs.declared.PointRecord.{PointRecord}
 use Rattle.state.specs.declared.PointState.TheVariants.{Free, Active}
 use Rattle.state.specs.declared.Runs.{Runs}
@@ -168,9 +168,9 @@ written l q row es fits long =
     }
 
 -- "Negative changes no status."
-unconfirmed : (c y d : ℕ) → (y ≡ 1 → ⊥) → (h : Held) (vs : List VersionRecord) → confirm c y d h vs ≡ vs
-unconfirmed c y d ne Absent vs = refl
-unconfirmed c y d ne (Has i v) vs = rw (ne_eqb y 1 ne)
+unconfirmed : (c y d : ℕ) → (y ≡ 1 → ⊥) → (h : Option HeldVersion) (vs : List VersionRecord) → confirm c y d h vs ≡ vs
+unconfirmed c y d ne None vs = refl
+unconfirmed c y d ne (Some h) vs = rw (ne_eqb y 1 ne)
 
 -- past the first n a list is as it was
 map_first-behind : {A : Type 0} (f : A → A) (l : List A) (n j : ℕ) (z : A) → n ≤ length l → n ≤ j → get_or (map_first n f l) j z ≡ get_or l j z

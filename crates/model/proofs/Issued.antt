@@ -6,6 +6,7 @@ use mathlib.Core.Bool.{Bool, true, false, not, ◌&&◌, false≢true}
 use mathlib.Core.List.{List, [], ◌∷◌, ◌++◌, map, map-append}
 use mathlib.Core.Logic.{inl, inr}
 use borrow.Author.Tests.{le-leb, le-ltb}
+use Rattle.std.specs.Prelude.{Ok, Err}
 use Rattle.quantity.specs.Limits.{run_ok, day_ok}
 use Rattle.quantity.specs.Lists.{fold}
 use Rattle.state.specs.Desk.{versions_in, flag_of}
@@ -22,15 +23,13 @@ use Rattle.state.specs.declared.VersionRow.{VersionRow}
 use Rattle.state.proofs.Settled.{settles-first, settles-second}
 use Rattle.model.specs.Agreement.{Chained, end, fresh}
 use Rattle.model.specs.Call.{issues, Stores, Lengths, Lent, Told, told, telling, cause_number, Reply}
-use Rattle.model.specs.Causes.{rules, refusal}
+use Rattle.model.specs.Causes.{rules, refusal, Ruling}
 use Rattle.model.specs.Laws.{Decides, here, below, ActsInOrder, IssuesClosed, IssuedAgain}
 use Rattle.model.specs.Plain.{opening_of, day_of, versions_of, closed_of, issued_of, view_in, answered, plain_reply, plain_end, worked_out, after}
 use Rattle.model.specs.Step.{step}
 use Rattle.model.specs.Table.{Set}
 use Rattle.model.specs.declared.Answer.TheVariants.{Accepted}
 use Rattle.model.specs.declared.Cause.TheVariants.{AlreadyIssued}
-use Rattle.model.specs.declared.Ruling.{Ruling}
-use Rattle.model.specs.declared.Ruling.TheVariants.{Fine, Refuse}
 use Rattle.model.proofs.Closed.{unclosed, unissued, closed-own}
 use Rattle.model.proofs.Corollaries.{reached}
 use Rattle.model.proofs.Demands.{chained-front}
@@ -169,13 +168,13 @@ again-plain l m n run d f = go (follows l m).plain (refusal (view_in g) (telling
         (here issued refl))))
 
     go : Plain g → (v : Ruling) → refusal (view_in g) (telling n (issues run d)) ≡ v → IssuedAgain (day_of g) d (answered v g (issues run d)).answer
-    go P Fine e = absurd (false≢true (sym (passed (rules (view_in g) n (issues run d)) e).1.1.1.1.0 ∙ issued))
-    go (empty z) (Refuse x) e = absurd (unissued run z issued)
-    go (opened O) (Refuse x) e =
+    go P (Ok tt) e = absurd (false≢true (sym (passed (rules (view_in g) n (issues run d)) e).1.1.1.1.0 ∙ issued))
+    go (empty z) (Err x) e = absurd (unissued run z issued)
+    go (opened O) (Err x) e =
         record {
           cause = x;
           refused = refl;
-          number = λ a b. let same : Refuse x ≡ Refuse AlreadyIssued = sym e ∙ decides-first (rules (view_in g) n (issues run d)) AlreadyIssued (decides O a b) in let k : x ≡ AlreadyIssued = cc in ap cause_number k;
+          number = λ a b. let same : Err x ≡ Err AlreadyIssued = sym e ∙ decides-first (rules (view_in g) n (issues run d)) AlreadyIssued (decides O a b) in let k : x ≡ AlreadyIssued = cc in ap cause_number k;
         }
 
 -- and of the running desk

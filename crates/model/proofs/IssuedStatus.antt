@@ -9,6 +9,7 @@ use native.Mathlib.Omega.{arith}
 use borrow.Author.Tests.{eq-eqb, ne_eqb, not-false}
 use lib.Dec.{leb, eqb}
 use lib.ListN.{length, set}
+use Rattle.std.specs.Prelude.{Option, Some, None}
 use Rattle.quantity.specs.Limits.{runs, run_ok, day_ok}
 use Rattle.quantity.specs.Lists.{all, fold}
 use Rattle.quantity.proofs.Lists.{all-at, all-set, all-map}
@@ -18,8 +19,7 @@ use Rattle.state.specs.Desk.{versions_in, flag_of}
 use Rattle.state.specs.Selection.{own, or_else, version_of, Tells}
 use Rattle.state.specs.Status.{status_number, counts, is_check, confirmed_status, settled_status}
 use Rattle.state.specs.Version.{empty_version, new_version, restatus, record_at, held}
-use Rattle.state.specs.declared.Held.{Held}
-use Rattle.state.specs.declared.Held.TheVariants.{Absent, Has}
+use Rattle.state.specs.declared.HeldVersion.{HeldVersion}
 use Rattle.state.specs.declared.Selection.{Selection}
 use Rattle.state.specs.declared.Selection.TheVariants.{None, Selected}
 use Rattle.state.specs.declared.Status.{Status}
@@ -75,11 +75,11 @@ notice-without s e k c p x y d vs w = go (held p x vs)
     new : not (eqb (status_number (confirmed_status c d)) s) ≡ true
     new = by-test (λ (t : Status). not (eqb (status_number t) s) ≡ true) (leb d c) Settlement Correction (λ _. rw e) (λ _. rw k)
 
-    go : (h : Held) → Without s (confirm c y d h vs)
-    go Absent = w
-    go (Has i v) =
-        by-test (Without s) (eqb y 1 && is_check v.status) (set vs i (restatus (confirmed_status c d) v)) vs
-        (λ _. all-set (other s) vs i (restatus (confirmed_status c d) v) w new) (λ _. w)
+    go : (h : Option HeldVersion) → Without s (confirm c y d h vs)
+    go None = w
+    go (Some h) =
+        by-test (Without s) (eqb y 1 && is_check h.record.status) (set vs h.at (restatus (confirmed_status c d) h.record)) vs
+        (λ _. all-set (other s) vs h.at (restatus (confirmed_status c d) h.record) w new) (λ _. w)
 
 -- an issue of a run what its settled ones are
 settle-without : (s r : ℕ) → eqb (status_number (settled_status r)) s ≡ false → (vs : List VersionRecord) → Without s vs → Without s (settled_by r vs)

@@ -3,17 +3,16 @@ use mathlib.Core.Path.{◌≡◌, refl}
 use mathlib.Core.Bool.{Bool, true, false}
 use mathlib.Core.List.{List, [], ◌∷◌}
 use lib.IntN.{pos}
+use Rattle.std.specs.Prelude.{Ok, Err}
 use Rattle.quantity.specs.Lists.{fold}
 use Rattle.state.specs.declared.Desk.{Desk}
 use Rattle.model.specs.Call.{Call, opens, activates, deactivates, submits, notices, assigns, shows, asks, closes, issues, lodges, reports, Stores, Lengths, Lent, Told, told, telling}
-use Rattle.model.specs.Causes.{refusal}
+use Rattle.model.specs.Causes.{refusal, Ruling}
 use Rattle.model.specs.Leaves.{Part, opening, day, points, groups, versions, used, closed, issued, values, book, log, schedules, row, sums, is_named, may, unless, Leaves, PlainLeaves}
 use Rattle.model.specs.Plain.{view_in, plainly, granted, answered, joined, plain_reply, plain_next, worked_out, after}
 use Rattle.model.specs.Step.{answering, granting, refusal_by, decided, step}
 use Rattle.model.specs.declared.Answer.{Answer}
 use Rattle.model.specs.declared.Answer.TheVariants.{Refused}
-use Rattle.model.specs.declared.Ruling.{Ruling}
-use Rattle.model.specs.declared.Ruling.TheVariants.{Fine, Refuse}
 
 -- what is as it was, named or not
 same : {A : Type 0} (t : Bool) (a : A) → unless t (a ≡ a)
@@ -65,8 +64,8 @@ unfolding step decided
 left-alone d l = go (refusal_by d (told l))
   where
     go : (v : Ruling) → Leaves (may l.call) d l.stores (decided v d l.stores l.call)
-    go Fine = grants-leave d l.stores l.call
-    go (Refuse x) = unmoved d l.stores (may l.call) (Refused x)
+    go (Ok tt) = grants-leave d l.stores l.call
+    go (Err x) = unmoved d l.stores (may l.call) (Refused x)
 
 -- ---- the plain desk
 
@@ -111,5 +110,5 @@ unfolding plain_reply plain_next answered joined
 plain-left-alone h t = go (refusal (view_in h) t)
   where
     go : (v : Ruling) → PlainLeaves (may t.call) (answered v h t.call) (worked_out h) (worked_out (joined v h t))
-    go Fine = joins-leave h t.lengths t.call
-    go (Refuse x) = nothing-set h (may t.call) (Refused x)
+    go (Ok tt) = joins-leave h t.lengths t.call
+    go (Err x) = nothing-set h (may t.call) (Refused x)

@@ -6,6 +6,7 @@ use mathlib.Core.Bool.{Bool, true, false, cond, ◌&&◌, true≢false}
 use mathlib.Core.List.{List, [], ◌∷◌, map}
 use lib.Dec.{eqb}
 use lib.ListN.{length, length-replicate}
+use Rattle.std.specs.Prelude.{Ok, Err}
 use Rattle.quantity.specs.Limits.{book_rows, schedule_rows}
 use Rattle.quantity.specs.Lists.{fold}
 use Rattle.quantity.proofs.Tests.{and-left}
@@ -15,11 +16,9 @@ use Rattle.state.specs.declared.Desk.{Desk}
 use Rattle.state.specs.declared.Opening.{Opening}
 use Rattle.model.specs.Agreement.{Running, Own, left, next, Chained, fresh, lend}
 use Rattle.model.specs.Call.{Call, opens, activates, deactivates, submits, notices, assigns, shows, asks, closes, issues, lodges, reports, Taken, every_store, all_but_schedules, the_book, the_schedules, book_and_schedules, Stores, Lengths, lengths_of, Lent, Told, told, telling}
-use Rattle.model.specs.Causes.{takes, or_if, first_of, opening_by, opens_ok, refusal}
+use Rattle.model.specs.Causes.{takes, or_if, first_of, opening_by, opens_ok, refusal, Ruling}
 use Rattle.model.specs.Plain.{Worked, opening_of, view_in, joined, plain_next, worked_out, after}
 use Rattle.model.specs.Step.{cleared, refusal_by, decided, step}
-use Rattle.model.specs.declared.Ruling.{Ruling}
-use Rattle.model.specs.declared.Ruling.TheVariants.{Fine, Refuse}
 use Rattle.model.proofs.Fresh.{State, early, holding}
 use Rattle.model.proofs.Invariant.{Holds, book-is, schedules-is, plain-open}
 use Rattle.model.proofs.Lending.{left-every}
@@ -41,8 +40,8 @@ lend-chained r (c ∷ l) = (lent-own r.desk.frame.opening (takes c) r.stores, le
 -- a call that sets no opening, refused or not
 unset : (v : Ruling) (h : List Told) (t : Told) → (after t (worked_out h)).opening ≡ opening_of h → opening_of (joined v h t) ≡ opening_of h
 unfolding joined worked_out
-unset Fine h t e = e
-unset (Refuse x) h t e = refl
+unset (Ok tt) h t e = e
+unset (Err x) h t e = refl
 
 unset-next : (h : List Told) (t : Told) → (after t (worked_out h)).opening ≡ opening_of h → opening_of (plain_next h t) ≡ opening_of h
 unfolding plain_next

@@ -1,15 +1,14 @@
 -- Demand 3, over the whole list: one step keeps the invariant, and so does every list of steps. Assumes nothing.
 use mathlib.Core.Path.{◌≡◌, refl}
 use mathlib.Core.List.{List, [], ◌∷◌, map}
+use Rattle.std.specs.Prelude.{Ok, Err}
 use Rattle.model.specs.Agreement.{Running, Own, next, Chained, replies, end, fresh, Agree, Agreement}
 use Rattle.model.specs.Call.{Call, opens, activates, deactivates, submits, notices, assigns, shows, asks, closes, issues, lodges, reports, Stores, lengths_of, Lent, Told, told, Reply}
-use Rattle.model.specs.Causes.{takes, rules, refusal}
+use Rattle.model.specs.Causes.{takes, rules, refusal, Ruling}
 use Rattle.model.specs.Laws.{Passed}
 use Rattle.model.specs.Plain.{view_in, answered, joined, plain_reply, plain_next, plain_replies, plain_end}
 use Rattle.model.specs.Step.{refusal_by, decided, step, reply_of}
 use Rattle.model.specs.View.{view_of}
-use Rattle.model.specs.declared.Ruling.{Ruling}
-use Rattle.model.specs.declared.Ruling.TheVariants.{Fine, Refuse}
 use Rattle.model.proofs.Assign.{assign-granted}
 use Rattle.model.proofs.Deviations.{lodge-granted, report-granted}
 use Rattle.model.proofs.Ends.{holds-agree}
@@ -40,7 +39,7 @@ every (lodges g d es) = lodge-granted g d es
 every (reports r g) = report-granted r g
 
 -- what the plain desk does not refuse has passed every rule
-pub fine : (d : Desk) (s : Stores) (h : List Told) (l : Lent) → Holds d s h → refusal (view_in h) (told l) ≡ Fine → Passed (rules (view_of d) (lengths_of l.stores) l.call)
+pub fine : (d : Desk) (s : Stores) (h : List Told) (l : Lent) → Holds d s h → refusal (view_in h) (told l) ≡ Ok tt → Passed (rules (view_of d) (lengths_of l.stores) l.call)
 unfolding refusal
 fine d s h l H e = passed (rules (view_of d) (lengths_of l.stores) l.call) (rw (holds-view d s h H) e)
 
@@ -54,8 +53,8 @@ opened-step d s h l H o = go (refusal (view_in h) (told l)) refl
     same = same-refusal d s h H (told l)
 
     go : (x : Ruling) → refusal (view_in h) (told l) ≡ x → (reply_of (step d l) ≡ plain_reply h (told l)) × State (next (record { desk = d; stores = s }) l) (plain_next h (told l))
-    go (Refuse c) e = rw (same, e) (refl, holding (rw (left-own d.frame.opening s l.stores (holds-open d s h H) (takes l.call) o) H))
-    go Fine e =
+    go (Err c) e = rw (same, e) (refl, holding (rw (left-own d.frame.opening s l.stores (holds-open d s h H) (takes l.call) o) H))
+    go (Ok tt) e =
         let D : Done d s h l.call l.stores = every l.call d s h l.stores H o (fine d s h l H e) in
         rw (same, e) (D.reply, holding D.holds)
 

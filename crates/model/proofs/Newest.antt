@@ -9,6 +9,7 @@ use borrow.Author.Tests.{leb-false, lt-leb, le-leb, ltb-false, eq-eqb, eqb-true,
 use lib.Dec.{leb}
 use lib.ListN.{length, take, length-append, get_or-append}
 use lib.Seq.{get_or-append_seam}
+use Rattle.std.specs.Prelude.{Ok, Err, Option, Some}
 use Rattle.quantity.specs.Limits.{point_ok, version_ok}
 use Rattle.quantity.specs.Lists.{fold}
 use Rattle.quantity.proofs.Ranges.{means-version}
@@ -17,8 +18,7 @@ use Rattle.state.specs.Change.{submitted, noticed, settled_by}
 use Rattle.state.specs.Desk.{is_open, versions_in}
 use Rattle.state.specs.Selection.{highest, best, is_selected, version_of, is_counted, own, with_status, SameVersion, Highest}
 use Rattle.state.specs.Status.{counts, confirmed_status}
-use Rattle.state.specs.Version.{empty_version, new_version, record_at, is_at, is_version, held, HeldIn}
-use Rattle.state.specs.declared.Held.TheVariants.{Has}
+use Rattle.state.specs.Version.{empty_version, new_version, record_at, is_at, is_version, held, HeldIn, held_version}
 use Rattle.state.specs.declared.Selection.{Selection}
 use Rattle.state.specs.declared.Selection.TheVariants.{None, Selected}
 use Rattle.state.specs.declared.Status.TheVariants.{Check}
@@ -28,18 +28,14 @@ use Rattle.state.proofs.Kept.{notice-negative, notice-other, settle-same}
 use Rattle.state.proofs.Picks.{best-highest, held-right, own-highest, own-most}
 use Rattle.model.specs.Agreement.{Running, Chained, next, end, fresh}
 use Rattle.model.specs.Call.{Call, opens, activates, deactivates, submits, notices, assigns, shows, asks, closes, issues, lodges, reports, Stores, Lengths, Lent, Told, told, telling, Reply}
-use Rattle.model.specs.Causes.{rules, notice_ok, refusal}
+use Rattle.model.specs.Causes.{rules, notice_ok, refusal, Ruling}
 use Rattle.model.specs.Laws.{Passed, Rising, OwnAbove, TakenUp, NoticeCounts}
 use Rattle.model.specs.Log.{log_row, due, add_row, log_numbers}
 use Rattle.model.specs.Plain.{opening_of, day_of, versions_of, log_of, view_in, answered, joined, plain_reply, plain_next, plain_end, worked_out, after}
 use Rattle.model.specs.Step.{step, reply_of}
 use Rattle.model.specs.View.{View}
 use Rattle.model.specs.declared.Answer.TheVariants.{Accepted}
-use Rattle.model.specs.declared.Due.{Due}
-use Rattle.model.specs.declared.Due.TheVariants.{Row}
 use Rattle.model.specs.declared.LogRow.{LogRow}
-use Rattle.model.specs.declared.Ruling.{Ruling}
-use Rattle.model.specs.declared.Ruling.TheVariants.{Fine, Refuse}
 use Rattle.model.proofs.ChangeLaws.{submitted-once}
 use Rattle.model.proofs.Corollaries.{reached}
 use Rattle.model.proofs.Demands.{chained-front}
@@ -108,11 +104,11 @@ rising-apart vs R i j a b e ne z =
 
 -- ---- check data that is its point's highest is above what either run has of its own
 
-own-lower : (vs : List VersionRecord) (p x i : ℕ) (v : VersionRecord) → Rising vs → held p x vs ≡ Has i v → v.status ≡ Check → highest p vs ≤ x → 1 ≤ x
+own-lower : (vs : List VersionRecord) (p x i : ℕ) (v : VersionRecord) → Rising vs → held p x vs ≡ Some (held_version i v) → v.status ≡ Check → highest p vs ≤ x → 1 ≤ x
     → (run : ℕ) → version_of (own run p vs) < x
 own-lower vs p x i v R found check top low run = go (own run p vs) (own-highest run p vs) (own-most run p vs)
   where
-    h : HeldIn p x vs (length vs) (Has i v)
+    h : HeldIn p x vs (length vs) (Some (held_version i v))
     h = subst (HeldIn p x vs (length vs)) found (held-right p x vs)
 
     named : is_version p x (record_at vs i) ≡ true
@@ -140,7 +136,7 @@ module _ (v : View) (n : Lengths) (p x d : ℕ) (R : Rising v.versions) (Q : Pas
   clearing = v.frame.opening.clearing.0
 
   -- the version is check data, its point's highest, and no 0
-  found : (i : ℕ) × ((r : VersionRecord) × ((held p x v.versions ≡ Has i r) × (r.status ≡ Check)))
+  found : (i : ℕ) × ((r : VersionRecord) × ((held p x v.versions ≡ Some (held_version i r)) × (r.status ≡ Check)))
   found = check-held (held p x v.versions) (past 25 (rules v n (notices p x 1 d)) Q)
 
   top : highest p v.versions ≤ x
@@ -157,9 +153,9 @@ module _ (v : View) (n : Lengths) (p x d : ℕ) (R : Rising v.versions) (Q : Pas
 
   -- the row of the run in which it then counts
   logs : (l : List LogRow) (run : ℕ) → counts run (confirmed_status clearing d) ≡ true
-      → due v.versions (noticed clearing p x 1 d v.versions) p d ≡ Row (log_row d p run (own run p (noticed clearing p x 1 d v.versions)))
+      → due v.versions (noticed clearing p x 1 d v.versions) p d ≡ Some (log_row d p run (own run p (noticed clearing p x 1 d v.versions)))
       → TakenUp run p x d v.versions (noticed clearing p x 1 d v.versions) (log_numbers l) (log_numbers (add_row (due v.versions (noticed clearing p x 1 d v.versions) p d) l))
-  logs l run e o = record { lower = lower run; chosen = chosen run e; row = ap (λ (z : Due). log_numbers (add_row z l)) o ∙ numbers-snoc l _ ∙ rw (chosen run e) }
+  logs l run e o = record { lower = lower run; chosen = chosen run e; row = ap (λ (z : Option LogRow). log_numbers (add_row z l)) o ∙ numbers-snoc l _ ∙ rw (chosen run e) }
 
   counts-in : (l : List LogRow)
       → NoticeCounts clearing p x d v.versions (noticed clearing p x 1 d v.versions) (log_numbers l) (log_numbers (add_row (due v.versions (noticed clearing p x 1 d v.versions) p d) l))
@@ -291,7 +287,7 @@ plain-rising l = (ordered l).rising
 pub plain-above : (l : List Told) → OwnAbove (versions_of (plain_end [] l))
 plain-above l = (ordered l).above
 
-pub plain-counts : (l : List Told) (n : Lengths) (p x d : ℕ) → refusal (view_in (plain_end [] l)) (telling n (notices p x 1 d)) ≡ Fine
+pub plain-counts : (l : List Told) (n : Lengths) (p x d : ℕ) → refusal (view_in (plain_end [] l)) (telling n (notices p x 1 d)) ≡ Ok tt
     → let h = plain_end [] l in let g = telling n (notices p x 1 d) ∷ h in
     NoticeCounts (opening_of h).clearing.0 p x d (versions_of h) (versions_of g) (log_numbers (log_of h)) (log_numbers (log_of g))
 unfolding refusal view_in worked_out after fold
@@ -318,17 +314,17 @@ last-reply s l m c =
     (one-step (end (fresh s) l) (plain_end [] (map told l)) m (reached s l (chained-front (fresh s) l (m ∷ []) c)) (chained-back (fresh s) l (m ∷ []) c).0).0
 
 -- what the plain desk accepts it does not refuse
-accepts-fine : (h : List Told) (t : Told) → (plain_reply h t).answer ≡ Accepted → refusal (view_in h) t ≡ Fine
+accepts-fine : (h : List Told) (t : Told) → (plain_reply h t).answer ≡ Accepted → refusal (view_in h) t ≡ Ok tt
 unfolding plain_reply answered
 accepts-fine h t e = go (refusal (view_in h) t) refl e
   where
-    go : (v : Ruling) → refusal (view_in h) t ≡ v → (answered v h t.call).answer ≡ Accepted → refusal (view_in h) t ≡ Fine
-    go Fine z e = z
-    go (Refuse x) z e = not-refused x (sym e)
+    go : (v : Ruling) → refusal (view_in h) t ≡ v → (answered v h t.call).answer ≡ Accepted → refusal (view_in h) t ≡ Ok tt
+    go (Ok tt) z e = z
+    go (Err x) z e = not-refused x (sym e)
 
 -- an accepted call joins the list
 pub accepted-joins : (s : Stores) (l : List Lent) (m : Lent) → Chained (fresh s) (l ++ (m ∷ [])) → (step (end (fresh s) l).desk m).answer ≡ Accepted
-    → (refusal (view_in (plain_end [] (map told l))) (told m) ≡ Fine) × (plain_end [] (map told (l ++ (m ∷ []))) ≡ told m ∷ plain_end [] (map told l))
+    → (refusal (view_in (plain_end [] (map told l))) (told m) ≡ Ok tt) × (plain_end [] (map told (l ++ (m ∷ []))) ≡ told m ∷ plain_end [] (map told l))
 unfolding Chained plain_end plain_next joined
 accepted-joins s l m c e =
     let h = plain_end [] (map told l) in

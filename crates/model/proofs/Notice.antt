@@ -7,6 +7,7 @@ use native.Mathlib.Omega.{arith}
 use borrow.Author.Tests.{not-false}
 use lib.Dec.{leb, eqb}
 use lib.ListN.{length, length-set}
+use Rattle.std.specs.Prelude.{Option, Some, None}
 use Rattle.quantity.specs.Limits.{points, point_ok, version_ok}
 use Rattle.quantity.specs.Lists.{fold}
 use Rattle.quantity.proofs.Tests.{by-test, and-left, and-right, within-low, within-high}
@@ -15,8 +16,7 @@ use Rattle.state.specs.Desk.{versions_in}
 use Rattle.state.specs.Status.{is_check, confirmed_status}
 use Rattle.state.specs.Version.{restatus, held}
 use Rattle.state.specs.declared.Desk.{Desk}
-use Rattle.state.specs.declared.Held.{Held}
-use Rattle.state.specs.declared.Held.TheVariants.{Absent, Has}
+use Rattle.state.specs.declared.HeldVersion.{HeldVersion}
 use Rattle.state.specs.declared.VersionRecord.{VersionRecord}
 use Rattle.state.proofs.Kept.{notice-other, noticed-versions}
 use Rattle.model.specs.Call.{notices, Stores, lengths_of, Told}
@@ -34,10 +34,10 @@ use Rattle.model.proofs.Rules.{past}
 use Rattle.model.proofs.Selections.{noticed-restated, restated-length}
 
 -- a notice leaves the table's length
-confirm-length : (c y e : ℕ) (l : List VersionRecord) (h : Held) → length (confirm c y e h l) ≡ length l
-confirm-length c y e l Absent = refl
-confirm-length c y e l (Has i v) =
-    by-test (λ (m : List VersionRecord). length m ≡ length l) (eqb y 1 && is_check v.status) _ l (λ _. length-set l i (restatus (confirmed_status c e) v)) (λ _. refl)
+confirm-length : (c y e : ℕ) (l : List VersionRecord) (h : Option HeldVersion) → length (confirm c y e h l) ≡ length l
+confirm-length c y e l None = refl
+confirm-length c y e l (Some h) =
+    by-test (λ (m : List VersionRecord). length m ≡ length l) (eqb y 1 && is_check h.record.status) _ l (λ _. length-set l h.at (restatus (confirmed_status c e) h.record)) (λ _. refl)
 
 module _ (p x y e : ℕ) (d : Desk) (s : Stores) (h : List Told) (H : Holds d s h) (st : Stores) (P : Passed (rules (view_of d) (lengths_of st) (notices p x y e))) where
   abbrev turned : List VersionRecord

@@ -10,6 +10,7 @@ use native.Mathlib.Omega.{arith}
 use borrow.Author.Tests.{ltb-true, ltb-false, leb-false, lt-leb, not-false}
 use lib.Dec.{leb, ltb}
 use lib.ListN.{length}
+use Rattle.std.specs.Prelude.{Ok, Err}
 use Rattle.quantity.specs.Limits.{quarters_ok, deadlines_ok}
 use Rattle.quantity.specs.Lists.{fold}
 use Rattle.quantity.proofs.Tests.{and-left, and-right}
@@ -23,14 +24,12 @@ use Rattle.state.specs.declared.Selection.TheVariants.{None, Selected}
 use Rattle.state.specs.declared.Status.TheVariants.{Check}
 use Rattle.state.specs.declared.VersionRow.{VersionRow}
 use Rattle.state.proofs.Kept.{settle-apart, settle-same}
-use Rattle.model.specs.Agreement.{Running, fresh}
-use Rattle.model.specs.Call.{Call, opens, activates, deactivates, submits, notices, assigns, shows, asks, closes, issues, lodges, reports, Lengths, Told, told, telling}
-use Rattle.model.specs.Causes.{terms, rules, or_if, first_of, opening_by, opens_ok, deadline, refusal}
+use Rattle.model.specs.Agreement.{Running}
+use Rattle.model.specs.Call.{Call, opens, activates, deactivates, submits, notices, assigns, shows, asks, closes, issues, lodges, reports, Lengths, Told, telling}
+use Rattle.model.specs.Causes.{terms, rules, or_if, first_of, opening_by, opens_ok, deadline, refusal, Ruling}
 use Rattle.model.specs.Laws.{Passed}
 use Rattle.model.specs.Plain.{Worked, opening_of, day_of, groups_of, versions_of, closed_of, issued_of, view_in, joined, plain_next, plain_end, worked_out, after}
 use Rattle.model.specs.View.{View}
-use Rattle.model.specs.declared.Ruling.{Ruling}
-use Rattle.model.specs.declared.Ruling.TheVariants.{Fine, Refuse}
 use Rattle.model.proofs.Flags.{Run, flag-apart, flag-kept, unflagged}
 use Rattle.model.proofs.Fresh.{State, early, holding}
 use Rattle.model.proofs.Invariant.{opening-open}
@@ -242,8 +241,8 @@ unfolding plain_next joined refusal worked_out
 opened-on h n c O = go (refusal (view_in h) (telling n c)) refl (opening-stays h n c (is-open h O n))
   where
     go : (v : Ruling) → refusal (view_in h) (telling n c) ≡ v → opening_of (joined (refusal (view_in h) (telling n c)) h (telling n c)) ≡ opening_of h → Onward h (joined v h (telling n c))
-    go (Refuse x) e o = nothing-on h (opened O)
-    go Fine e o =
+    go (Err x) e o = nothing-on h (opened O)
+    go (Ok tt) e o =
         let P = passed (rules (view_in h) n c) e in
         let A = act h O n c in
         let same : opening_of (telling n c ∷ h) ≡ opening_of h = rw e at o in
@@ -314,8 +313,8 @@ module _ (I : List Told → Type 0) (keeps : (h : List Told) → Plain h → I h
   kept-on h t P S = go (refusal (view_in h) t) refl
     where
       go : (v : Ruling) → refusal (view_in h) t ≡ v → I (joined v h t)
-      go Fine e = keeps h P S t.lengths t.call (passed (rules (view_in h) t.lengths t.call) e)
-      go (Refuse x) e = S
+      go (Ok tt) e = keeps h P S t.lengths t.call (passed (rules (view_in h) t.lengths t.call) e)
+      go (Err x) e = S
 
   kept-end : (h m : List Told) → Plain h → I h → I (plain_end h m)
   unfolding plain_end

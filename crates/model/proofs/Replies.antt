@@ -9,6 +9,7 @@ use lib.Dec.{eqb}
 use lib.IntN.{pos}
 use lib.ListN.{length, take, length-take}
 use lib.Seq.{get_or-take}
+use Rattle.std.specs.Prelude.{Option, Some, None}
 use Rattle.quantity.specs.Limits.{runs, groups, run_ok, group_ok}
 use Rattle.quantity.proofs.Tests.{and-left, and-right, and-both, or-left, within-low, within-high}
 use Rattle.book.specs.Place.{group_row, row_start}
@@ -18,8 +19,7 @@ use Rattle.state.specs.Desk.{versions_in}
 use Rattle.state.specs.Valid.{valid_desk}
 use Rattle.state.specs.Version.{empty_version, record_at, is_at, is_version, held, HeldIn}
 use Rattle.state.specs.declared.Desk.{Desk}
-use Rattle.state.specs.declared.Held.{Held}
-use Rattle.state.specs.declared.Held.TheVariants.{Absent, Has}
+use Rattle.state.specs.declared.HeldVersion.{HeldVersion}
 use Rattle.state.specs.declared.Status.{Status}
 use Rattle.state.specs.declared.Status.TheVariants.{Check, Settlement, Settled, Correction, CorrectionSettled}
 use Rattle.state.specs.declared.VersionRecord.{VersionRecord}
@@ -81,34 +81,34 @@ numbered Correction = refl
 numbered CorrectionSettled = refl
 
 -- what is found among the first records of a table stands in the table
-pub held-within : (p x n : ℕ) (vs : List VersionRecord) (h : Held) → HeldIn p x (take n vs) (length (take n vs)) h → HeldIn p x vs (length (take n vs)) h
+pub held-within : (p x n : ℕ) (vs : List VersionRecord) (h : Option HeldVersion) → HeldIn p x (take n vs) (length (take n vs)) h → HeldIn p x vs (length (take n vs)) h
 held-within p x n vs h q = go h q
   where
     same : (j : ℕ) → j < length (take n vs) → record_at vs j ≡ record_at (take n vs) j
     same j l = sym (get_or-take n vs j empty_version (omega (arith, length-take n vs)))
 
-    go : (h : Held) → HeldIn p x (take n vs) (length (take n vs)) h → HeldIn p x vs (length (take n vs)) h
-    go Absent q = λ j l. ap (is_version p x) (same j l) ∙ q j l
-    go (Has i v) q =
+    go : (h : Option HeldVersion) → HeldIn p x (take n vs) (length (take n vs)) h → HeldIn p x vs (length (take n vs)) h
+    go None q = λ j l. ap (is_version p x) (same j l) ∙ q j l
+    go (Some h) q =
         record {
           within = q.within;
-          found = ap (is_version p x) (same i q.within) ∙ q.found;
-          here = same i q.within ∙ q.here;
+          found = ap (is_version p x) (same h.at q.within) ∙ q.found;
+          here = same h.at q.within ∙ q.here;
           first = λ j l. ap (is_version p x) (same j (omega (arith, q.within))) ∙ q.first j l;
         }
 
 -- the version found tells its status
-tells : (p x n count : ℕ) (vs : List VersionRecord) (h : Held) → HeldIn p x vs n h → n ≤ count → is_absent h ≡ false → TellsStatus p x count vs (answer_number (status_answer h))
+tells : (p x n count : ℕ) (vs : List VersionRecord) (h : Option HeldVersion) → HeldIn p x vs n h → n ≤ count → is_absent h ≡ false → TellsStatus p x count vs (answer_number (status_answer h))
 unfolding is_absent status_answer
-tells p x n count vs Absent q few e = absurd (true≢false e)
-tells p x n count vs (Has i v) q few e =
+tells p x n count vs None q few e = absurd (true≢false e)
+tells p x n count vs (Some h) q few e =
     record {
-      at = i;
+      at = h.at;
       within = omega (arith, q.within);
-      of_point = eqb-true (record_at vs i).point.0 p (and-left (is_at p (record_at vs i)) _ q.found);
-      numbered = eqb-true (record_at vs i).version.0 x (and-right (is_at p (record_at vs i)) _ q.found);
+      of_point = eqb-true (record_at vs h.at).point.0 p (and-left (is_at p (record_at vs h.at)) _ q.found);
+      numbered = eqb-true (record_at vs h.at).version.0 x (and-right (is_at p (record_at vs h.at)) _ q.found);
       first = λ j l a b. true≢false (sym (and-both (is_at p (record_at vs j)) _ (eq-eqb (record_at vs j).point.0 p a) (eq-eqb (record_at vs j).version.0 x b)) ∙ q.first j l);
-      number = rw q.here (numbered v.status);
+      number = rw q.here (numbered h.record.status);
     }
 
 pub status-told : (d : Desk) (s : Stores) (p x : ℕ) → IsAccepted (step d (record { call = asks p x; stores = s })).answer

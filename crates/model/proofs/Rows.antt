@@ -8,15 +8,15 @@ use borrow.Author.Tests.{leb-true, leb-false, eqb-true, ne_eqb, ltb-false, not-f
 use lib.Dec.{leb, eqb}
 use lib.IntN.{ℤ}
 use lib.ListN.{length}
+use Rattle.std.specs.Prelude.{Option, Some, None}
 use Rattle.quantity.specs.Lists.{fold}
 use Rattle.quantity.proofs.Tests.{or-right}
 use Rattle.book.proofs.Rows.{length-splice, splice-in, splice-before, splice-after}
 use Rattle.state.specs.Change.{submitted, noticed}
 use Rattle.state.specs.Desk.{versions_in}
 use Rattle.state.specs.Selection.{highest}
-use Rattle.state.specs.Version.{new_version, held}
+use Rattle.state.specs.Version.{new_version, held, held_version}
 use Rattle.state.specs.declared.Desk.{Desk}
-use Rattle.state.specs.declared.Held.TheVariants.{Has}
 use Rattle.state.specs.declared.Status.TheVariants.{Check}
 use Rattle.state.specs.declared.VersionRecord.{VersionRecord}
 use Rattle.model.specs.Call.{Call, opens, activates, deactivates, submits, notices, assigns, shows, asks, closes, issues, lodges, reports, all_but_schedules, Stores, Lengths, lengths_of, Lent, Told, telling}
@@ -28,8 +28,6 @@ use Rattle.model.specs.Replies.{IsAccepted}
 use Rattle.model.specs.Rows.{row_by, Gains}
 use Rattle.model.specs.Step.{Outcome, version_by, granting, step}
 use Rattle.model.specs.View.{View, view_of}
-use Rattle.model.specs.declared.Due.{Due}
-use Rattle.model.specs.declared.Due.TheVariants.{Nothing, Row}
 use Rattle.model.specs.declared.LogRow.{LogRow}
 use Rattle.model.proofs.Accepting.{lines-passed, is-granted, plain-passed, plain-joined}
 use Rattle.model.proofs.Logs.{numbers-snoc}
@@ -38,15 +36,15 @@ use Rattle.model.proofs.TableDue.{submit-due, submit-taken, submit-undue, check-
 use Rattle.model.proofs.TableLaw.{highest-below}
 
 -- the numbers of the row that is due
-abbrev numbers_of : Due → List ℕ
-numbers_of Nothing = []
-numbers_of (Row r) = log_words r
+abbrev numbers_of : Option LogRow → List ℕ
+numbers_of None = []
+numbers_of (Some r) = log_words r
 
 -- ---- a row, or none, more in the log
 
-gains : (o : Due) (used : ℕ) (log : List ℕ) → ((i : ℕ) → i < length (numbers_of o) → 4 * used + i < length log) → Gains (numbers_of o) used (used_after o used) log (logged used o log)
-gains Nothing used log room = record { within = room; size = refl; earlier = λ i l. refl; there = λ i l. absurd (omega arith); behind = λ i l. refl; counted = omega arith }
-gains (Row r) used log room =
+gains : (o : Option LogRow) (used : ℕ) (log : List ℕ) → ((i : ℕ) → i < length (numbers_of o) → 4 * used + i < length log) → Gains (numbers_of o) used (used_after o used) log (logged used o log)
+gains None used log room = record { within = room; size = refl; earlier = λ i l. refl; there = λ i l. absurd (omega arith); behind = λ i l. refl; counted = omega arith }
+gains (Some r) used log room =
     let fits : 4 * used + 4 ≤ length log = omega (arith, room 3 (omega arith)) in
     record {
       within = room;
@@ -58,9 +56,9 @@ gains (Row r) used log room =
     }
 
 -- where 17 does not hold there is room for it
-room-left : (o : Due) (used log : ℕ) → log_full used log o ≡ false → (i : ℕ) → i < length (numbers_of o) → 4 * used + i < log
-room-left Nothing used log e i l = absurd (omega arith)
-room-left (Row r) used log e i l = omega (arith, ltb-false log (4 * (used + 1)) e)
+room-left : (o : Option LogRow) (used log : ℕ) → log_full used log o ≡ false → (i : ℕ) → i < length (numbers_of o) → 4 * used + i < log
+room-left None used log e i l = absurd (omega arith)
+room-left (Some r) used log e i l = omega (arith, ltb-false log (4 * (used + 1)) e)
 
 -- ---- which row
 
@@ -88,7 +86,7 @@ module _ (v : View) (n : Lengths) where
       c : ℕ
       c = v.frame.opening.clearing.0
 
-      found : (i : ℕ) × ((r : VersionRecord) × ((held p x v.versions ≡ Has i r) × (r.status ≡ Check)))
+      found : (i : ℕ) × ((r : VersionRecord) × ((held p x v.versions ≡ Some (held_version i r)) × (r.status ≡ Check)))
       found = check-held (held p x v.versions) (past 25 (rules v n (notices p x y d)) P)
 
       top : highest p v.versions ≤ x
@@ -114,10 +112,10 @@ module _ (d : Desk) (s : Stores) (some : 1 ≤ d.frame.opening.quarters) where
   Logs c o = Gains (row_by d.frame.opening.first.0 d.frame.opening.clearing.0 c) d.frame.used o.desk.frame.used s.log o.stores.log
 
   no-row : Gains [] d.frame.used d.frame.used s.log s.log
-  no-row = gains Nothing d.frame.used s.log (λ i l. absurd (omega arith))
+  no-row = gains None d.frame.used s.log (λ i l. absurd (omega arith))
 
   -- the row that is due is the one that there is room for
-  follows : (row : List ℕ) (o free : Due) → numbers_of o ≡ row → numbers_of free ≡ row → log_full d.frame.used d.frame.opening.log free ≡ false
+  follows : (row : List ℕ) (o free : Option LogRow) → numbers_of o ≡ row → numbers_of free ≡ row → log_full d.frame.used d.frame.opening.log free ≡ false
       → other_lengths all_but_schedules (lengths_of s) d.frame.opening ≡ false → Gains row d.frame.used (used_after o d.frame.used) s.log (logged d.frame.used o s.log)
   unfolding other_lengths
   follows row o free e z full lent =
@@ -159,26 +157,26 @@ module _ (d : Desk) (s : Stores) (some : 1 ≤ d.frame.opening.quarters) where
 
 -- ---- the plain desk
 
-row-added : (o : Due) (l : List LogRow) (row : List ℕ) → numbers_of o ≡ row → log_numbers (add_row o l) ≡ log_numbers l ++ row
-row-added Nothing l row e = rw (← e, append-nil)
-row-added (Row r) l row e = numbers-snoc l r ∙ rw e
+row-added : (o : Option LogRow) (l : List LogRow) (row : List ℕ) → numbers_of o ≡ row → log_numbers (add_row o l) ≡ log_numbers l ++ row
+row-added None l row e = rw (← e, append-nil)
+row-added (Some r) l row e = numbers-snoc l r ∙ rw e
 
 module _ (h : List Told) (m : Lengths) where
   joined-gains : (c : Call) → Passed (rules (view_in h) m c) → log_numbers (log_of (telling m c ∷ h)) ≡ log_numbers (log_of h) ++ row_by (opening_of h).first.0 (opening_of h).clearing.0 c
   unfolding view_in worked_out after fold
-  joined-gains (opens q f c k gs) P = row-added Nothing (log_of h) [] refl
-  joined-gains (activates p k a b e) P = row-added Nothing (log_of h) [] refl
-  joined-gains (deactivates p e) P = row-added Nothing (log_of h) [] refl
+  joined-gains (opens q f c k gs) P = row-added None (log_of h) [] refl
+  joined-gains (activates p k a b e) P = row-added None (log_of h) [] refl
+  joined-gains (deactivates p e) P = row-added None (log_of h) [] refl
   joined-gains (submits p x e es) P =
       row-added (due (versions_of h) (submitted (new_version (opening_of h).first.0 (length (versions_of h)) p x e) (versions_of h)) p e) (log_of h) _ (submit-row (view_in h) m (length (versions_of h)) p x e es P)
   joined-gains (notices p x y e) P = row-added (due (versions_of h) (noticed (opening_of h).clearing.0 p x y e (versions_of h)) p e) (log_of h) _ (notice-row (view_in h) m p x y e P)
-  joined-gains (assigns a g e) P = row-added Nothing (log_of h) [] refl
-  joined-gains (shows r g) P = row-added Nothing (log_of h) [] refl
-  joined-gains (asks p x) P = row-added Nothing (log_of h) [] refl
-  joined-gains (closes r e) P = row-added Nothing (log_of h) [] refl
-  joined-gains (issues r e) P = row-added Nothing (log_of h) [] refl
-  joined-gains (lodges g e es) P = row-added Nothing (log_of h) [] refl
-  joined-gains (reports r g) P = row-added Nothing (log_of h) [] refl
+  joined-gains (assigns a g e) P = row-added None (log_of h) [] refl
+  joined-gains (shows r g) P = row-added None (log_of h) [] refl
+  joined-gains (asks p x) P = row-added None (log_of h) [] refl
+  joined-gains (closes r e) P = row-added None (log_of h) [] refl
+  joined-gains (issues r e) P = row-added None (log_of h) [] refl
+  joined-gains (lodges g e es) P = row-added None (log_of h) [] refl
+  joined-gains (reports r g) P = row-added None (log_of h) [] refl
 
   -- every accepted call
   pub plain-gains : (c : Call) → IsAccepted (plain_reply h (telling m c)).answer

@@ -8,6 +8,7 @@ use native.Mathlib.Omega.{arith}
 use lib.Dec.{eqb}
 use lib.ListN.{length, set, length-map, get_or-map}
 use lib.Seq.{map-set_same}
+use Rattle.std.specs.Prelude.{Option, Some, None}
 use Rattle.quantity.specs.Lists.{all}
 use Rattle.quantity.proofs.Lists.{all-map}
 use Rattle.quantity.proofs.Tests.{by-test, and-right}
@@ -15,8 +16,7 @@ use Rattle.state.specs.Change.{submitted, noticed, confirm, settle, settled_by}
 use Rattle.state.specs.Selection.{best, version_of, is_counted, own, or_else, selected, Highest}
 use Rattle.state.specs.Status.{counts, is_check, submitted_status, confirmed_status, settled_status}
 use Rattle.state.specs.Version.{empty_version, new_version, restatus, record_at, is_at, held, HeldIn}
-use Rattle.state.specs.declared.Held.{Held}
-use Rattle.state.specs.declared.Held.TheVariants.{Absent, Has}
+use Rattle.state.specs.declared.HeldVersion.{HeldVersion}
 use Rattle.state.specs.declared.Selection.{Selection}
 use Rattle.state.specs.declared.Selection.TheVariants.{None, Selected}
 use Rattle.state.specs.declared.Status.{Status}
@@ -94,12 +94,12 @@ module _ (r i : ℕ) where
   pub own-unturned : (c p x y d : ℕ) (vs : List VersionRecord) → counts r (confirmed_status c d) ≡ false → own r i (noticed c p x y d vs) ≡ own r i vs
   own-unturned c p x y d vs e = go (held p x vs) (held-right p x vs)
     where
-      go : (h : Held) → HeldIn p x vs (length vs) h → own r i (confirm c y d h vs) ≡ own r i vs
-      go Absent q = refl
-      go (Has j v) q =
-          let w = restatus (confirmed_status c d) v in
-          by-test (λ (l : List VersionRecord). own r i l ≡ own r i vs) (eqb y 1 && is_check v.status) (set vs j w) vs
-          (λ z. best-set (is_counted r i) vs j w (ap (is_counted r i) q.here ∙ uncounted v (check-uncounted v.status (and-right (eqb y 1) _ z))) (uncounted w e))
+      go : (h : Option HeldVersion) → HeldIn p x vs (length vs) h → own r i (confirm c y d h vs) ≡ own r i vs
+      go None q = refl
+      go (Some h) q =
+          let w = restatus (confirmed_status c d) h.record in
+          by-test (λ (l : List VersionRecord). own r i l ≡ own r i vs) (eqb y 1 && is_check h.record.status) (set vs h.at w) vs
+          (λ z. best-set (is_counted r i) vs h.at w (ap (is_counted r i) q.here ∙ uncounted h.record (check-uncounted h.record.status (and-right (eqb y 1) _ z))) (uncounted w e))
           (λ _. refl)
 
 -- ---- restated records: nothing but statuses changes
@@ -115,11 +115,11 @@ Restated vs ws = map bare ws ≡ map bare vs
 pub noticed-restated : (c p x y d : ℕ) (vs : List VersionRecord) → Restated vs (noticed c p x y d vs)
 noticed-restated c p x y d vs = go (held p x vs) (held-right p x vs)
   where
-    go : (h : Held) → HeldIn p x vs (length vs) h → Restated vs (confirm c y d h vs)
-    go Absent q = refl
-    go (Has j v) q =
-        by-test (Restated vs) (eqb y 1 && is_check v.status) (set vs j (restatus (confirmed_status c d) v)) vs
-        (λ _. map-set_same bare vs j (restatus (confirmed_status c d) v) empty_version (ap bare (sym q.here))) (λ _. refl)
+    go : (h : Option HeldVersion) → HeldIn p x vs (length vs) h → Restated vs (confirm c y d h vs)
+    go None q = refl
+    go (Some h) q =
+        by-test (Restated vs) (eqb y 1 && is_check h.record.status) (set vs h.at (restatus (confirmed_status c d) h.record)) vs
+        (λ _. map-set_same bare vs h.at (restatus (confirmed_status c d) h.record) empty_version (ap bare (sym q.here))) (λ _. refl)
 
 pub settled-restated : (run : ℕ) (vs : List VersionRecord) → Restated vs (settled_by run vs)
 unfolding settle

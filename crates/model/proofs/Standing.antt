@@ -6,6 +6,7 @@ use mathlib.Core.List.{List, [], ◌∷◌, ◌++◌, map, map-append}
 use mathlib.Core.Logic.{inl, inr}
 use native.Mathlib.Omega.{arith}
 use borrow.Author.Tests.{not-false}
+use Rattle.std.specs.Prelude.{Ok, Err}
 use Rattle.quantity.specs.Limits.{runs}
 use Rattle.quantity.specs.Lists.{all, fold}
 use Rattle.quantity.proofs.Lists.{any-false}
@@ -15,12 +16,10 @@ use Rattle.state.specs.Point.{free_point, active_point, point_at, is_active}
 use Rattle.state.specs.Version.{is_at}
 use Rattle.model.specs.Agreement.{Running, Chained, replies, end, fresh, book_figure, Agree}
 use Rattle.model.specs.Call.{Call, opens, activates, deactivates, submits, notices, assigns, shows, asks, closes, issues, lodges, reports, Stores, Lengths, Lent, Told, told, telling}
-use Rattle.model.specs.Causes.{rules, deadline, refusal}
+use Rattle.model.specs.Causes.{rules, deadline, refusal, Ruling}
 use Rattle.model.specs.Laws.{Passed, StandsStill}
 use Rattle.model.specs.Plain.{opening_of, day_of, points_of, groups_of, versions_of, energies_of, view_in, figure, joined, plain_next, plain_replies, plain_end, worked_out, after}
 use Rattle.model.specs.Series.{figure_of}
-use Rattle.model.specs.declared.Ruling.{Ruling}
-use Rattle.model.specs.declared.Ruling.TheVariants.{Fine, Refuse}
 use Rattle.model.proofs.Corollaries.{reached}
 use Rattle.model.proofs.Deliveries.{all-energised}
 use Rattle.model.proofs.Demands.{chained-front}
@@ -88,8 +87,8 @@ module _ (run : ℕ) (R : Run run) (k q : ℕ) where
   figure-on h t P H late = go (refusal (view_in h) t) refl (onward h t P)
     where
       go : (v : Ruling) → refusal (view_in h) t ≡ v → Onward h (joined (refusal (view_in h) t) h t) → figure (joined v h t) run k q ≡ figure h run k q
-      go (Refuse x) e O = refl
-      go Fine e O =
+      go (Err x) e O = refl
+      go (Ok tt) e O =
           let A : Onward h (t ∷ h) = rw e at O in
           let w = after t (worked_out h) in
           sym

@@ -7,15 +7,15 @@ use native.Mathlib.Omega.{arith}
 use borrow.Author.Tests.{leb-true, leb-false, eqb-true, eqb-false, eq-eqb, ne_eqb, le-leb, lt-leb, not-false}
 use lib.Dec.{leb, eqb}
 use lib.ListN.{length}
+use Rattle.std.specs.Prelude.{Option, Some, None}
 use Rattle.quantity.specs.Meaning.{Means}
 use Rattle.quantity.proofs.Meanings.{means-lt, means-so, means-never, means-le, means-eq}
 use Rattle.quantity.proofs.Tests.{and-right}
 use Rattle.state.specs.Change.{submitted, noticed}
 use Rattle.state.specs.Selection.{row_at, raise_earlier, version_of, is_counted, own, with_status, highest, Highest}
 use Rattle.state.specs.Status.{is_check, counts, confirmed_status}
-use Rattle.state.specs.Version.{new_version, restatus, record_at, is_at, held, HeldIn}
-use Rattle.state.specs.declared.Held.{Held}
-use Rattle.state.specs.declared.Held.TheVariants.{Absent, Has}
+use Rattle.state.specs.Version.{new_version, restatus, record_at, is_at, held, HeldIn, held_version}
+use Rattle.state.specs.declared.HeldVersion.{HeldVersion}
 use Rattle.state.specs.declared.Selection.{Selection}
 use Rattle.state.specs.declared.Selection.TheVariants.{None, Selected}
 use Rattle.state.specs.declared.Status.TheVariants.{Check}
@@ -25,8 +25,6 @@ use Rattle.state.proofs.Kept.{is-check, notice-negative, notice-own}
 use Rattle.state.proofs.Picks.{best-newest, held-right, own-highest, own-most, submit-check}
 use Rattle.model.specs.Causes.{not_check, log_full}
 use Rattle.model.specs.Log.{differ, log_row, due}
-use Rattle.model.specs.declared.Due.{Due}
-use Rattle.model.specs.declared.Due.TheVariants.{Nothing, Row}
 use Rattle.model.specs.declared.LogRow.{LogRow}
 use Rattle.model.proofs.Logs.{differ-same, due-same}
 
@@ -36,22 +34,22 @@ yes-of true m p = refl
 yes-of false m p = absurd (m.fails refl p)
 
 -- a row is due exactly where a test holds
-by-change : {P : Type 0} (used log : ℕ) (o : Due) (t : Bool) → Means t P → (t ≡ true → (r : LogRow) × (o ≡ Row r)) → (t ≡ false → o ≡ Nothing) → Means (log_full used log o) (P × (log < 4 * (used + 1)))
+by-change : {P : Type 0} (used log : ℕ) (o : Option LogRow) (t : Bool) → Means t P → (t ≡ true → (r : LogRow) × (o ≡ Some r)) → (t ≡ false → o ≡ None) → Means (log_full used log o) (P × (log < 4 * (used + 1)))
 by-change used log o true m row none =
     let r = row refl in
     rw r.1 (means-so (means-lt log (4 * (used + 1))) (λ h. (m.holds refl, h)) (λ q. q.1))
 by-change used log o false m row none = rw (none refl) (means-never (λ q. m.fails refl q.0))
 
 module _ (vs ws : List VersionRecord) (p d : ℕ) where
-  changed-first : differ (own 1 p vs) (own 1 p ws) ≡ true → due vs ws p d ≡ Row (log_row d p 1 (own 1 p ws))
+  changed-first : differ (own 1 p vs) (own 1 p ws) ≡ true → due vs ws p d ≡ Some (log_row d p 1 (own 1 p ws))
   unfolding due
   changed-first e = rw e
 
-  changed-second : own 1 p ws ≡ own 1 p vs → differ (own 2 p vs) (own 2 p ws) ≡ true → due vs ws p d ≡ Row (log_row d p 2 (own 2 p ws))
+  changed-second : own 1 p ws ≡ own 1 p vs → differ (own 2 p vs) (own 2 p ws) ≡ true → due vs ws p d ≡ Some (log_row d p 2 (own 2 p ws))
   unfolding due
   changed-second e h = rw (e, differ-same (own 1 p vs), h)
 
-  changed-neither : differ (own 1 p vs) (own 1 p ws) ≡ false → differ (own 2 p vs) (own 2 p ws) ≡ false → due vs ws p d ≡ Nothing
+  changed-neither : differ (own 1 p vs) (own 1 p ws) ≡ false → differ (own 2 p vs) (own 2 p ws) ≡ false → due vs ws p d ≡ None
   unfolding due
   changed-neither e h = rw (e, h)
 
@@ -80,10 +78,10 @@ module _ (vs : List VersionRecord) (f row p x d : ℕ) (above : highest p vs < x
   submit-taken e = ap version_of (submit-chosen e)
 
   -- so a row is due exactly by F
-  pub submit-due : leb d f ≡ true → due vs (submitted new vs) p d ≡ Row (log_row d p 1 (own 1 p (submitted new vs)))
+  pub submit-due : leb d f ≡ true → due vs (submitted new vs) p d ≡ Some (log_row d p 1 (own 1 p (submitted new vs)))
   submit-due e = changed-first vs (submitted new vs) p d (ap (differ (own 1 p vs)) (submit-chosen e) ∙ outside (own 1 p vs) (own-highest 1 p vs))
 
-  pub submit-undue : leb d f ≡ false → due vs (submitted new vs) p d ≡ Nothing
+  pub submit-undue : leb d f ≡ false → due vs (submitted new vs) p d ≡ None
   submit-undue e = due-same vs (submitted new vs) p d (λ r. ap (with_status Check) (submit-check r p new vs (rw e)))
 
   pub means-submit-due : (used log : ℕ) → Means (log_full used log (due vs (submitted new vs) p d)) ((d ≤ f) × (log < 4 * (used + 1)))
@@ -92,19 +90,19 @@ module _ (vs : List VersionRecord) (f row p x d : ℕ) (above : highest p vs < x
 -- ---- a notice on the highest version of its point, which is check data
 
 -- a negative one owes no row
-pub notice-undue : (vs : List VersionRecord) (c p x y d : ℕ) → eqb y 1 ≡ false → due vs (noticed c p x y d vs) p d ≡ Nothing
+pub notice-undue : (vs : List VersionRecord) (c p x y d : ℕ) → eqb y 1 ≡ false → due vs (noticed c p x y d vs) p d ≡ None
 notice-undue vs c p x y d e =
     let same = notice-negative c p x y d vs (eqb-false y 1 e) in
     due-same vs (noticed c p x y d vs) p d (λ r. ap (λ (l : List VersionRecord). with_status Check (own r p l)) same)
 
 -- where 25 does not hold, the version found is check data
-pub check-held : (h : Held) → not_check h ≡ false → (i : ℕ) × ((v : VersionRecord) × ((h ≡ Has i v) × (v.status ≡ Check)))
+pub check-held : (h : Option HeldVersion) → not_check h ≡ false → (i : ℕ) × ((v : VersionRecord) × ((h ≡ Some (held_version i v)) × (v.status ≡ Check)))
 unfolding not_check
-check-held Absent e = absurd (true≢false e)
-check-held (Has i v) e = (i, (v, (refl, is-check v.status (not-false (is_check v.status) e))))
+check-held None e = absurd (true≢false e)
+check-held (Some h) e = (h.at, (h.record, (refl, is-check h.record.status (not-false (is_check h.record.status) e))))
 
-module _ (vs : List VersionRecord) (c p x d i : ℕ) (v : VersionRecord) (found : held p x vs ≡ Has i v) (check : v.status ≡ Check) (top : highest p vs ≤ x) where
-  held_right : HeldIn p x vs (length vs) (Has i v)
+module _ (vs : List VersionRecord) (c p x d i : ℕ) (v : VersionRecord) (found : held p x vs ≡ Some (held_version i v)) (check : v.status ≡ Check) (top : highest p vs ≤ x) where
+  held_right : HeldIn p x vs (length vs) (Some (held_version i v))
   held_right = subst (HeldIn p x vs (length vs)) found (held-right p x vs)
 
   number : v.version.0 ≡ x
@@ -140,11 +138,11 @@ module _ (vs : List VersionRecord) (c p x d i : ℕ) (v : VersionRecord) (found 
   notice-taken run e = ap version_of (notice-chosen run e) ∙ number
 
   -- so a row is due: of run 1 up to C, of run 2 after it
-  pub notice-first : d ≤ c → due vs (noticed c p x 1 d vs) p d ≡ Row (log_row d p 1 (own 1 p (noticed c p x 1 d vs)))
+  pub notice-first : d ≤ c → due vs (noticed c p x 1 d vs) p d ≡ Some (log_row d p 1 (own 1 p (noticed c p x 1 d vs)))
   notice-first h =
       changed-first vs (noticed c p x 1 d vs) p d (ap (differ (own 1 p vs)) (notice-chosen 1 (rw (le-leb d c h))) ∙ another 1)
 
-  pub notice-second : c < d → due vs (noticed c p x 1 d vs) p d ≡ Row (log_row d p 2 (own 2 p (noticed c p x 1 d vs)))
+  pub notice-second : c < d → due vs (noticed c p x 1 d vs) p d ≡ Some (log_row d p 2 (own 2 p (noticed c p x 1 d vs)))
   notice-second h =
       changed-second vs (noticed c p x 1 d vs) p d (notice-own 1 c p x d i v vs found check ∙ rw (lt-leb d c h))
       (ap (differ (own 2 p vs)) (notice-chosen 2 (rw (lt-leb d c h))) ∙ another 2)
@@ -153,9 +151,9 @@ module _ (vs : List VersionRecord) (c p x d i : ℕ) (v : VersionRecord) (found 
   pub means-notice-due : (y used log : ℕ) → Means (log_full used log (due vs (noticed c p x y d vs) p d)) ((y ≡ 1) × (log < 4 * (used + 1)))
   means-notice-due y used log = by-change used log (due vs (noticed c p x y d vs) p d) (eqb y 1) (means-eq y 1) row (notice-undue vs c p x y d)
     where
-      by-day : (t : Bool) → leb d c ≡ t → (r : LogRow) × (due vs (noticed c p x 1 d vs) p d ≡ Row r)
+      by-day : (t : Bool) → leb d c ≡ t → (r : LogRow) × (due vs (noticed c p x 1 d vs) p d ≡ Some r)
       by-day true e = (_, notice-first (leb-true d c e))
       by-day false e = (_, notice-second (leb-false d c e))
 
-      row : eqb y 1 ≡ true → (r : LogRow) × (due vs (noticed c p x y d vs) p d ≡ Row r)
-      row e = subst (λ (z : ℕ). (r : LogRow) × (due vs (noticed c p x z d vs) p d ≡ Row r)) (sym (eqb-true y 1 e)) (by-day (leb d c) refl)
+      row : eqb y 1 ≡ true → (r : LogRow) × (due vs (noticed c p x y d vs) p d ≡ Some r)
+      row e = subst (λ (z : ℕ). (r : LogRow) × (due vs (noticed c p x z d vs) p d ≡ Some r)) (sym (eqb-true y 1 e)) (by-day (leb d c) refl)

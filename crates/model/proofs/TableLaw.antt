@@ -9,6 +9,7 @@ use borrow.Author.Tests.{not-false, eqb-true, ltb-false}
 use lib.Dec.{leb, eqb}
 use lib.IntN.{ℤ}
 use lib.ListN.{length}
+use Rattle.std.specs.Prelude.{Ok, Err}
 use Rattle.quantity.specs.Limits.{versions, day_ok, version_ok, point_ok, delta_ok, group_ok, run_ok}
 use Rattle.quantity.specs.Lists.{any}
 use Rattle.quantity.specs.Meaning.{Means}
@@ -29,7 +30,7 @@ use Rattle.state.specs.declared.VersionRow.{VersionRow}
 use Rattle.state.proofs.Limits.{means-series, means-valid}
 use Rattle.state.proofs.Picks.{best-highest}
 use Rattle.model.specs.Call.{Call, opens, activates, deactivates, submits, notices, assigns, shows, asks, closes, issues, lodges, reports, Stores, Lengths, lengths_of, Lent, Told, told, cause_number}
-use Rattle.model.specs.Causes.{Rule, terms, takes, rules, other_lengths, first_of, opens_ok, opening_by, submit_ok, notice_ok, lodge_ok, log_full, is_absent, is_below, not_check, refusal}
+use Rattle.model.specs.Causes.{Rule, terms, takes, rules, other_lengths, first_of, opens_ok, opening_by, submit_ok, notice_ok, lodge_ok, log_full, is_absent, is_below, not_check, refusal, Ruling}
 use Rattle.model.specs.Laws.{Passed, Decides, here, below}
 use Rattle.model.specs.Log.{due}
 use Rattle.model.specs.Plain.{versions_of, view_in, granted, answered, plain_reply}
@@ -40,8 +41,6 @@ use Rattle.model.specs.declared.Answer.{Answer}
 use Rattle.model.specs.declared.Answer.TheVariants.{Refused}
 use Rattle.model.specs.declared.Cause.{Cause}
 use Rattle.model.specs.declared.Cause.TheVariants.{NotOpen}
-use Rattle.model.specs.declared.Ruling.{Ruling}
-use Rattle.model.specs.declared.Ruling.TheVariants.{Fine, Refuse}
 use Rattle.model.proofs.CauseLaws.{status-found, step-accepts, step-refused, step-refuses}
 use Rattle.model.proofs.Rules.{not-refused, passed, passed-fine, past, first-decides, decides-first}
 use Rattle.model.proofs.TableDue.{check-held, means-submit-due, means-notice-due}
@@ -263,8 +262,8 @@ by-table l t a S refused refuses accepts =
     }
   where
     go : ((x : Cause) → a ≡ Refused x → ⊥) → (r : Ruling) → first_of l ≡ r → NoneIs t
-    go free Fine e = passed-none l t S (passed l e)
-    go free (Refuse x) e = absurd (free x (refuses x (first-decides l x e)))
+    go free (Ok tt) e = passed-none l t S (passed l e)
+    go free (Err x) e = absurd (free x (refuses x (first-decides l x e)))
 
 -- ---- both desks
 
@@ -326,5 +325,5 @@ plain-by-table h t =
     l = rules (view_in h) t.lengths t.call
 
     go : (x : Cause) (r : Ruling) → first_of l ≡ r → (answered r h t.call).answer ≡ Refused x → Decides x l
-    go x Fine z e = granted-fine h t.lengths t.call x (passed l z) e
-    go x (Refuse y) z e = let same : y ≡ x = cc in first-decides l x (z ∙ ap Refuse same)
+    go x (Ok tt) z e = granted-fine h t.lengths t.call x (passed l z) e
+    go x (Err y) z e = let same : y ≡ x = cc in first-decides l x (z ∙ ap Err same)

@@ -9,6 +9,7 @@ use borrow.Author.Tests.{ltb-true, ltb-false, eqb-true, not-true, not-false, eq-
 use lib.Dec.{leb, ltb, eqb}
 use lib.IntN.{ℤ, pos, nat_abs}
 use lib.ListN.{length, get_or}
+use Rattle.std.specs.Prelude.{Option, Some, None}
 use Rattle.quantity.specs.Limits.{day_ok, version_ok, point_ok, group_ok, energy_ok}
 use Rattle.quantity.specs.Lists.{all, any}
 use Rattle.quantity.specs.Meaning.{Means, Between, Each, Among}
@@ -19,9 +20,8 @@ use Rattle.state.specs.Point.{free_point, point_at, is_active, since_of, is_seri
 use Rattle.state.specs.Selection.{best, version_of, Highest}
 use Rattle.state.specs.Status.{status_number, is_check}
 use Rattle.state.specs.Valid.{opening_ok}
-use Rattle.state.specs.Version.{empty_version, record_at, is_at, is_version, held, HeldIn}
-use Rattle.state.specs.declared.Held.{Held}
-use Rattle.state.specs.declared.Held.TheVariants.{Absent, Has}
+use Rattle.state.specs.Version.{empty_version, record_at, is_at, is_version, held, HeldIn, held_version}
+use Rattle.state.specs.declared.HeldVersion.{HeldVersion}
 use Rattle.state.specs.declared.Opening.{Opening}
 use Rattle.state.specs.declared.PointState.{PointState}
 use Rattle.state.specs.declared.PointState.TheVariants.{Free, Active}
@@ -188,9 +188,9 @@ module _ (vs : List VersionRecord) where
   unfolding is_absent
   means-present p x = go (held p x vs) (held-right p x vs)
     where
-      go : (h : Held) → HeldIn p x vs (length vs) h → Means (not (is_absent h)) (Present vs p x)
-      go Absent h = means-never (λ q. (named p x (record_at vs q.0)).fails (h q.0 q.1.0) q.1.1)
-      go (Has i v) h = record { holds = λ _. (i, (h.within, (named p x (record_at vs i)).holds h.found)); fails = λ t _. true≢false t }
+      go : (h : Option HeldVersion) → HeldIn p x vs (length vs) h → Means (not (is_absent h)) (Present vs p x)
+      go None h = means-never (λ q. (named p x (record_at vs q.0)).fails (h q.0 q.1.0) q.1.1)
+      go (Some k) h = record { holds = λ _. (k.at, (h.within, (named p x (record_at vs k.at)).holds h.found)); fails = λ t _. true≢false t }
 
   pub means-absent : (p x : ℕ) → Means (is_absent (held p x vs)) (Present vs p x → ⊥)
   means-absent p x = go (is_absent (held p x vs)) (means-present p x)
@@ -204,14 +204,14 @@ module _ (vs : List VersionRecord) where
   unfolding is_absent not_check
   means-status p x = go (held p x vs) (held-right p x vs)
     where
-      go : (h : Held) → HeldIn p x vs (length vs) h → is_absent h ≡ false → Means (not_check h) ((i : ℕ) × (FoundAt vs p x i × (status_number (record_at vs i).status ≡ 1 → ⊥)))
-      go Absent h e = absurd (true≢false e)
-      go (Has i v) h e =
-          means-so (means-not (is_check v.status) (means-eq (status_number v.status) 1))
-          (λ n. (i, (at-found i v h, λ z. n (ap (λ (r : VersionRecord). status_number r.status) (sym h.here) ∙ z))))
-          (λ q z. q.1.1 (ap (λ (r : VersionRecord). status_number r.status) (same i v h q ∙ h.here) ∙ z))
+      go : (h : Option HeldVersion) → HeldIn p x vs (length vs) h → is_absent h ≡ false → Means (not_check h) ((i : ℕ) × (FoundAt vs p x i × (status_number (record_at vs i).status ≡ 1 → ⊥)))
+      go None h e = absurd (true≢false e)
+      go (Some k) h e =
+          means-so (means-not (is_check k.record.status) (means-eq (status_number k.record.status) 1))
+          (λ n. (k.at, (at-found k.at k.record h, λ z. n (ap (λ (r : VersionRecord). status_number r.status) (sym h.here) ∙ z))))
+          (λ q z. q.1.1 (ap (λ (r : VersionRecord). status_number r.status) (same k.at k.record h q ∙ h.here) ∙ z))
         where
-          at-found : (i : ℕ) (v : VersionRecord) → HeldIn p x vs (length vs) (Has i v) → FoundAt vs p x i
+          at-found : (i : ℕ) (v : VersionRecord) → HeldIn p x vs (length vs) (Some (held_version i v)) → FoundAt vs p x i
           at-found i v h =
               let both = (named p x (record_at vs i)).holds h.found in
               record {
@@ -221,7 +221,7 @@ module _ (vs : List VersionRecord) where
                 first = λ j l a b. (named p x (record_at vs j)).fails (h.first j l) (a, b);
               }
 
-          same : (i : ℕ) (v : VersionRecord) (h : HeldIn p x vs (length vs) (Has i v)) (q : (j : ℕ) × (FoundAt vs p x j × (status_number (record_at vs j).status ≡ 1 → ⊥))) → record_at vs q.0 ≡ record_at vs i
+          same : (i : ℕ) (v : VersionRecord) (h : HeldIn p x vs (length vs) (Some (held_version i v))) (q : (j : ℕ) × (FoundAt vs p x j × (status_number (record_at vs j).status ≡ 1 → ⊥))) → record_at vs q.0 ≡ record_at vs i
           same i v h q =
               let f = at-found i v h in
               let g = q.1.0 in

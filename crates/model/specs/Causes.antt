@@ -1,5 +1,5 @@
 -- "Causes and numbers": "Checks go down the table, only those that fit the call; the first that holds decides."
-use Rattle.std.specs.Prelude.{ℕ, ◌+◌, ◌*◌, Bool, true, false, cond, not, ◌&&◌, ◌||◌, List, [], ◌∷◌, leb, ltb, eqb, ℤ, length}
+use Rattle.std.specs.Prelude.{ℕ, ◌+◌, ◌*◌, Bool, true, false, cond, not, ◌&&◌, ◌||◌, List, [], ◌∷◌, leb, ltb, eqb, ℤ, length, Result, Ok, Err, Option, Some, None}
 use Rattle.quantity.specs.Limits.{versions, deltas, day_ok, version_ok, point_ok, delta_ok, group_ok, run_ok, energy_ok}
 use Rattle.quantity.specs.Lists.{all, any, fold}
 use Rattle.state.specs.Change.{submitted, noticed}
@@ -9,8 +9,7 @@ use Rattle.state.specs.Selection.{highest}
 use Rattle.state.specs.Status.{is_check}
 use Rattle.state.specs.Valid.{opening_ok}
 use Rattle.state.specs.Version.{new_version, is_at, held}
-use Rattle.state.specs.declared.Held.{Held}
-use Rattle.state.specs.declared.Held.TheVariants.{Absent, Has}
+use Rattle.state.specs.declared.HeldVersion.{HeldVersion}
 use Rattle.state.specs.declared.Opening.{Opening}
 use Rattle.state.specs.declared.VersionRecord.{VersionRecord}
 use Rattle.model.specs.Call.{Call, opens, activates, deactivates, submits, notices, assigns, shows, asks, closes, issues, lodges, reports, Lengths, Taken, every_store, all_but_schedules, the_book, the_schedules, book_and_schedules, no_store, Told}
@@ -19,10 +18,11 @@ use Rattle.model.specs.View.{View}
 use Rattle.model.specs.declared.Asks.{Asks}
 use Rattle.model.specs.declared.Cause.{Cause}
 use Rattle.model.specs.declared.Cause.TheVariants.{NotOpen, WrongLength, BadField, OpenAgain, BadOpening, PastDay, AfterCorrection, TooLate, PointActive, SameSeries, NotActive, HasVersion, TooEarly, VersionPresent, VersionBelow, NoVersion, NoticeBelow, NotCheckData, NoRow, NoLogRow, CloseTooEarly, AlreadyClosed, FirstRunOpen, NotClosed, AlreadyIssued}
-use Rattle.model.specs.declared.Due.{Due}
-use Rattle.model.specs.declared.Due.TheVariants.{Nothing, Row}
-use Rattle.model.specs.declared.Ruling.{Ruling}
-use Rattle.model.specs.declared.Ruling.TheVariants.{Fine, Refuse}
+use Rattle.model.specs.declared.LogRow.{LogRow}
+
+-- what the table says of a call: fine, or the cause that decides
+abbrev pub Ruling : Type 0
+Ruling = Result (Unit {0}) Cause
 
 -- a line of the table for a call: whether the cause holds, and the cause
 pub record Rule : Type 0 where
@@ -35,8 +35,8 @@ rule t c l = record { holds = t; cause = c } ∷ l
 
 -- what is refused stays refused; what is fine is refused where the test holds
 unfoldable pub or_if : Ruling → Bool → Cause → Ruling
-or_if Fine t c = cond t (Refuse c) Fine
-or_if (Refuse e) t c = Refuse e
+or_if (Ok tt) t c = cond t (Err c) (Ok tt)
+or_if (Err e) t c = Err e
 
 -- the same by a line of the table
 abbrev pub or_rule : Ruling → Rule → Ruling
@@ -44,7 +44,7 @@ or_rule v r = or_if v r.holds r.cause
 
 -- "the first that holds decides"
 unfoldable pub first_of : List Rule → Ruling
-first_of l = fold or_rule Fine l
+first_of l = fold or_rule (Ok tt) l
 
 -- the opening that a call of open would make
 abbrev pub opening_by : (quarters first clearing correction : ℕ) → Lengths → Opening
@@ -87,23 +87,23 @@ abbrev pub lodge_ok : (group day quarters : ℕ) → List ℤ → Bool
 lodge_ok g d q es = group_ok g && (day_ok d && (eqb (length es) q && all energy_ok es))
 
 -- "no such version"
-unfoldable pub is_absent : Held → Bool
-is_absent Absent = true
-is_absent (Has i v) = false
+unfoldable pub is_absent : Option HeldVersion → Bool
+is_absent None = true
+is_absent (Some h) = false
 
 -- "version below the point's highest", of whatever status: 15 of a submission, 37 of a notice
 abbrev pub is_below : (point version : ℕ) → List VersionRecord → Bool
 is_below p x vs = ltb x (highest p vs)
 
 -- "notice: status not 1"
-unfoldable pub not_check : Held → Bool
-not_check Absent = true
-not_check (Has i v) = not (is_check v.status)
+unfoldable pub not_check : Option HeldVersion → Bool
+not_check None = true
+not_check (Some h) = not (is_check h.record.status)
 
 -- "a log row is due and none is left"
-abbrev pub log_full : (used log : ℕ) → Due → Bool
-log_full n log Nothing = false
-log_full n log (Row r) = ltb log (4 * (n + 1))
+abbrev pub log_full : (used log : ℕ) → Option LogRow → Bool
+log_full n log None = false
+log_full n log (Some r) = ltb log (4 * (n + 1))
 
 -- "day ≤ C (run 1) or ≤ K (run 2)"
 abbrev pub deadline : Opening → (run : ℕ) → ℕ

@@ -1,5 +1,5 @@
 -- Demands 1 and 2 as statements on the desks.
-use Rattle.std.specs.Prelude.{ℕ, ◌*◌, ◌≤◌, ◌<◌, ◌≡◌, Bool, true, false, List, [], map, take}
+use Rattle.std.specs.Prelude.{ℕ, ◌*◌, ◌≤◌, ◌<◌, ◌≡◌, Bool, true, false, List, [], map, take, Option}
 use Rattle.quantity.specs.Limits.{runs, run_rows}
 use Rattle.state.specs.Desk.{versions_in}
 use Rattle.state.specs.Version.{held}
@@ -13,7 +13,7 @@ use Rattle.model.specs.Table.{ByTable, desk_table}
 use Rattle.model.specs.declared.Answer.{Answer}
 use Rattle.model.specs.declared.Answer.TheVariants.{Accepted, HasStatus, Refused}
 use Rattle.model.specs.declared.Cause.{Cause}
-use Rattle.model.specs.declared.Due.{Due}
+use Rattle.model.specs.declared.LogRow.{LogRow}
 
 -- "A call accepted returns 0 (status: 1..5; show: the row)."
 abbrev pub asks_status : Call → Bool
@@ -64,7 +64,7 @@ pub record DemandTwo (s : Stores) (l : List Lent) : Type 0 where
 pub record Alike (d : Desk) (s t : Stores) (o p : Outcome) : Type 0 where
   pub answer : o.answer ≡ p.answer
   pub desk : o.desk ≡ p.desk
-  pub row : Due
+  pub row : Option LogRow
   pub log : o.stores.log ≡ logged d.frame.used row s.log
   pub other_log : p.stores.log ≡ logged d.frame.used row t.log
 

@@ -1,13 +1,11 @@
 -- "When run 1's selection or run 2's own changes, the log gains a row: day, point, run, new version."
-use Rattle.std.specs.Prelude.{ℕ, ◌+◌, ◌*◌, Bool, true, false, cond, not, ◌&&◌, List, [], ◌∷◌, ◌++◌, eqb}
+use Rattle.std.specs.Prelude.{ℕ, ◌+◌, ◌*◌, Bool, true, false, cond, not, ◌&&◌, List, [], ◌∷◌, ◌++◌, eqb, Option, Some, None}
 use Rattle.book.specs.Row.{splice}
 use Rattle.state.specs.Selection.{own, version_of}
 use Rattle.state.specs.declared.Selection.{Selection}
 use Rattle.state.specs.declared.Selection.TheVariants.{None, Selected}
 use Rattle.state.specs.declared.VersionRecord.{VersionRecord}
 use Rattle.state.specs.declared.VersionRow.{VersionRow}
-use Rattle.model.specs.declared.Due.{Due}
-use Rattle.model.specs.declared.Due.TheVariants.{Nothing, Row}
 use Rattle.model.specs.declared.LogRow.{LogRow}
 use Rattle.model.specs.declared.Turn.{Turn}
 
@@ -31,18 +29,18 @@ abbrev pub log_row : (day point run : ℕ) → Selection → LogRow
 log_row d p run s = record { day = record { 0 = d }; point = record { 0 = p }; run = run; version = record { 0 = version_of s } }
 
 -- the row that a turn makes due
-abbrev pub due_by : Turn → (point day : ℕ) → Due
+abbrev pub due_by : Turn → (point day : ℕ) → Option LogRow
 due_by t p d =
-    cond (differ t.old1 t.new1) (Row (log_row d p 1 t.new1)) (cond (differ t.old2 t.new2) (Row (log_row d p 2 t.new2)) Nothing)
+    cond (differ t.old1 t.new1) (Some (log_row d p 1 t.new1)) (cond (differ t.old2 t.new2) (Some (log_row d p 2 t.new2)) None)
 
 -- the row that a change of the versions of a point makes due
-unfoldable pub due : (before after : List VersionRecord) (point day : ℕ) → Due
+unfoldable pub due : (before after : List VersionRecord) (point day : ℕ) → Option LogRow
 due vs ws p d = due_by (turn_of vs ws p) p d
 
 -- the log rows with the one that is due at their end
-abbrev pub add_row : Due → List LogRow → List LogRow
-add_row Nothing l = l
-add_row (Row r) l = l ++ (r ∷ [])
+abbrev pub add_row : Option LogRow → List LogRow → List LogRow
+add_row None l = l
+add_row (Some r) l = l ++ (r ∷ [])
 
 -- a row as four numbers of the log
 abbrev pub log_words : LogRow → List ℕ
@@ -54,11 +52,11 @@ log_numbers [] = []
 log_numbers (r ∷ l) = log_words r ++ log_numbers l
 
 -- the log with the row that is due after the rows used
-abbrev pub logged : (used : ℕ) → Due → List ℕ → List ℕ
-logged n Nothing log = log
-logged n (Row r) log = splice log (4 * n) 4 (log_words r)
+abbrev pub logged : (used : ℕ) → Option LogRow → List ℕ → List ℕ
+logged n None log = log
+logged n (Some r) log = splice log (4 * n) 4 (log_words r)
 
 -- the rows used then
-abbrev pub used_after : Due → (used : ℕ) → ℕ
-used_after Nothing n = n
-used_after (Row r) n = n + 1
+abbrev pub used_after : Option LogRow → (used : ℕ) → ℕ
+used_after None n = n
+used_after (Some r) n = n + 1

@@ -1,7 +1,7 @@
 -- The plain desk: "It keeps one list, empty at first. .. All else is worked out by going through the list from its start."
 -- The list stands newest first: what "joins the end" is put in front, and each definition says what the last call makes of what the calls
 -- before it gave, so it goes through the list from its start.
-use Rattle.std.specs.Prelude.{ℕ, zero, suc, ◌-◌, List, [], ◌∷◌, ◌++◌, ℤ, pos, length, get_or, set, replicate}
+use Rattle.std.specs.Prelude.{ℕ, zero, suc, ◌-◌, List, [], ◌∷◌, ◌++◌, ℤ, pos, length, get_or, set, replicate, Ok, Err}
 use Rattle.quantity.specs.Limits.{points, deltas, groups as group_count}
 use Rattle.quantity.specs.Lists.{fold}
 use Rattle.quantity.specs.Sum.{sum_to}
@@ -18,7 +18,7 @@ use Rattle.state.specs.declared.PointRecord.{PointRecord}
 use Rattle.state.specs.declared.Runs.{Runs}
 use Rattle.state.specs.declared.VersionRecord.{VersionRecord}
 use Rattle.model.specs.Call.{Call, opens, activates, deactivates, submits, notices, assigns, shows, asks, closes, issues, lodges, reports, Lengths, Told, Reply}
-use Rattle.model.specs.Causes.{terms, opening_by, refusal}
+use Rattle.model.specs.Causes.{terms, opening_by, refusal, Ruling}
 use Rattle.model.specs.Log.{due, add_row}
 use Rattle.model.specs.Series.{figure_of, outside_of}
 use Rattle.model.specs.Step.{status_answer}
@@ -26,8 +26,6 @@ use Rattle.model.specs.View.{View}
 use Rattle.model.specs.declared.Answer.{Answer}
 use Rattle.model.specs.declared.Answer.TheVariants.{Accepted, Refused}
 use Rattle.model.specs.declared.LogRow.{LogRow}
-use Rattle.model.specs.declared.Ruling.{Ruling}
-use Rattle.model.specs.declared.Ruling.TheVariants.{Fine, Refuse}
 
 -- what the plain desk works out: the opening, the day, the points, the delta groups of each run, the versions, the energies of the submissions in their
 -- order, the log rows, the runs closed, the runs issued, the schedules lodged
@@ -224,13 +222,13 @@ granted h (reports r g) = record { answer = Accepted; row = []; surplus = monthl
 
 -- "A call that the table below refuses gets its number, show an empty row too, and leaves the list as it is"
 unfoldable pub answered : Ruling → List Told → Call → Reply
-answered Fine h c = granted h c
-answered (Refuse x) h c = plainly (Refused x)
+answered (Ok tt) h c = granted h c
+answered (Err x) h c = plainly (Refused x)
 
 -- "An accepted call joins the end"
 unfoldable pub joined : Ruling → List Told → Told → List Told
-joined Fine h t = t ∷ h
-joined (Refuse x) h t = h
+joined (Ok tt) h t = t ∷ h
+joined (Err x) h t = h
 
 -- the plain desk's answer to a call, and its list after it
 unfoldable pub plain_reply : List Told → Told → Reply

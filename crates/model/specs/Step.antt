@@ -1,5 +1,5 @@
 -- The running desk: one step on its state and what is lent to it, refusals included. It is total: any state, any stores, any numbers.
-use Rattle.std.specs.Prelude.{ℕ, ◌*◌, Bool, cond, not, ◌&&◌, List, [], map, get_or, replicate}
+use Rattle.std.specs.Prelude.{ℕ, ◌*◌, Bool, cond, not, ◌&&◌, List, [], map, get_or, replicate, Ok, Err, Option, Some, None}
 use Rattle.quantity.specs.Limits.{book_rows, schedule_rows}
 use Rattle.quantity.specs.Word.{word, signed}
 use Rattle.book.specs.Place.{group_row, delta_row, row_start}
@@ -18,14 +18,13 @@ use Rattle.state.specs.Valid.{valid_desk}
 use Rattle.state.specs.Version.{new_version, held}
 use Rattle.state.specs.declared.DeltaGroups.{DeltaGroups}
 use Rattle.state.specs.declared.Desk.{Desk}
-use Rattle.state.specs.declared.Held.{Held}
-use Rattle.state.specs.declared.Held.TheVariants.{Absent, Has}
+use Rattle.state.specs.declared.HeldVersion.{HeldVersion}
 use Rattle.state.specs.declared.PointState.{PointState}
 use Rattle.state.specs.declared.Selection.{Selection}
 use Rattle.state.specs.declared.Selection.TheVariants.{None, Selected}
 use Rattle.state.specs.declared.VersionRecord.{VersionRecord}
 use Rattle.model.specs.Call.{Call, opens, activates, deactivates, submits, notices, assigns, shows, asks, closes, issues, lodges, reports, Stores, Lent, Told, lengths_of, told, Reply}
-use Rattle.model.specs.Causes.{Rule, terms, rules, rule, first_of, opening_by}
+use Rattle.model.specs.Causes.{Rule, terms, rules, rule, first_of, opening_by, Ruling}
 use Rattle.model.specs.Log.{differ, turn_of, due, logged, used_after}
 use Rattle.model.specs.Series.{sides_of}
 use Rattle.model.specs.View.{view_of}
@@ -36,8 +35,6 @@ use Rattle.model.specs.declared.Side.{Side}
 use Rattle.model.specs.declared.Side.TheVariants.{Outside, Group, Delta}
 use Rattle.model.specs.declared.Sides.{Sides}
 use Rattle.model.specs.declared.Turn.{Turn}
-use Rattle.model.specs.declared.Ruling.{Ruling}
-use Rattle.model.specs.declared.Ruling.TheVariants.{Fine, Refuse}
 
 -- ---- the book
 
@@ -137,9 +134,9 @@ abbrev pub version_by : Desk → (point version day : ℕ) → VersionRecord
 version_by d p x day = new_version d.frame.opening.first.0 (rows_used d.frame) p x day
 
 -- the version's status, if the point has it
-unfoldable pub status_answer : Held → Answer
-status_answer Absent = Refused NoVersion
-status_answer (Has i v) = HasStatus v.status
+unfoldable pub status_answer : Option HeldVersion → Answer
+status_answer None = Refused NoVersion
+status_answer (Some h) = HasStatus h.record.status
 
 -- "The calls, in building order"
 abbrev pub granting : Desk → Stores → Call → Outcome
@@ -196,8 +193,8 @@ refusal_by d t = first_of (lines d t)
 -- "A refusal returns its number and changes nothing in the desk, its stores or the output. A refused show returns an empty part too"; document 02: a
 -- report's sums are "both 0 when refused"
 unfoldable pub decided : Ruling → Desk → Stores → Call → Outcome
-decided Fine d s c = granting d s c
-decided (Refuse x) d s c = answering (Refused x) d s
+decided (Ok tt) d s c = granting d s c
+decided (Err x) d s c = answering (Refused x) d s
 
 -- one call
 unfoldable pub step : Desk → Lent → Outcome

@@ -2,62 +2,45 @@
 // sides of a series.
 #![tactic(auto)]
 
+ghost use Rattle.std.specs.Prelude.{◌≡◌};
+ghost use Rattle.model.specs.Call.{cause_number, answer_number};
+
 use quantity::{Day, PointNo, Version};
 use state::{Selection, Status};
 
-// Why a call is refused, in the order of the table. A01 to A05 are the codes of the published decision trees.
+// Why a call is refused, in the order of the table, with its number there. A01 to A05 are the codes of the published decision trees.
 #[derive(Clone, Copy)]
 pub enum Cause {
-    // 1
-    NotOpen,
-    // 2
-    WrongLength,
-    // 3
-    BadField,
-    // 6
-    OpenAgain,
-    // 4
-    BadOpening,
-    // 5
-    PastDay,
-    // 11 (A01)
-    AfterCorrection,
-    // 26
-    TooLate,
-    // 21
-    PointActive,
-    // 22
-    SameSeries,
-    // 12 (A02)
-    NotActive,
-    // 23
-    HasVersion,
-    // 13 (A03)
-    TooEarly,
-    // 14 (A04)
-    VersionPresent,
-    // 15 (A05)
-    VersionBelow,
-    // 24
-    NoVersion,
-    // 37
-    NoticeBelow,
-    // 25
-    NotCheckData,
-    // 16
-    NoRow,
-    // 17
-    NoLogRow,
-    // 27
-    CloseTooEarly,
-    // 28
-    AlreadyClosed,
-    // 29
-    FirstRunOpen,
-    // 38
-    NotClosed,
-    // 39
-    AlreadyIssued,
+    NotOpen = 1,
+    WrongLength = 2,
+    BadField = 3,
+    OpenAgain = 6,
+    BadOpening = 4,
+    PastDay = 5,
+    // A01
+    AfterCorrection = 11,
+    TooLate = 26,
+    PointActive = 21,
+    SameSeries = 22,
+    // A02
+    NotActive = 12,
+    HasVersion = 23,
+    // A03
+    TooEarly = 13,
+    // A04
+    VersionPresent = 14,
+    // A05
+    VersionBelow = 15,
+    NoVersion = 24,
+    NoticeBelow = 37,
+    NotCheckData = 25,
+    NoRow = 16,
+    NoLogRow = 17,
+    CloseTooEarly = 27,
+    AlreadyClosed = 28,
+    FirstRunOpen = 29,
+    NotClosed = 38,
+    AlreadyIssued = 39,
 }
 
 // The answer of a call. An accepted status is a case of its own.
@@ -68,11 +51,25 @@ pub enum Answer {
     Refused(Cause),
 }
 
-// What the table says of a call: fine, or the cause that decides.
-#[derive(Clone, Copy)]
-pub enum Ruling {
-    Fine,
-    Refuse(Cause),
+impl From<Cause> for u64 {
+    ghost from_gives = { λ cause number. number ≡ cause_number cause };
+
+    fn from(cause: Cause) -> u64 {
+        cause as u64
+    }
+}
+
+// What a call returns: 0 where it is accepted, a status, or the cause of its refusal.
+impl From<Answer> for u64 {
+    ghost from_gives = { λ answer number. number ≡ answer_number answer };
+
+    fn from(answer: Answer) -> u64 {
+        match answer {
+            Answer::Accepted => 0,
+            Answer::HasStatus(status) => u64::from(status),
+            Answer::Refused(cause) => u64::from(cause),
+        }
+    }
 }
 
 // What a call asks of the desk: a point, 0 where there is none; whether an active point has a series; whether the point has versions, and one of
@@ -104,13 +101,6 @@ pub struct LogRow {
     pub point: PointNo,
     pub run: u64,
     pub version: Version,
-}
-
-// A log row, if one is due.
-#[derive(Clone, Copy)]
-pub enum Due {
-    Nothing,
-    Row(LogRow),
 }
 
 // One side of a series: no row of the book, a group's row, or a delta's row and that of its delta group.

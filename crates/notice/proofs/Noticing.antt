@@ -9,6 +9,7 @@ use borrow.Author.Tests.{not-false, ne_eqb}
 use lib.Dec.{eqb}
 use lib.ListN.{length, set}
 use lib.Seq.{set-get_or, get_or-take, length-take-le}
+use Rattle.std.specs.Prelude.{Ok, Option, Some, None}
 use Rattle.quantity.specs.Limits.{versions}
 use Rattle.quantity.specs.Lists.{all}
 use Rattle.state.specs.Change.{noticed, confirm}
@@ -17,10 +18,9 @@ use Rattle.state.specs.Point.{point_at}
 use Rattle.state.specs.Selection.{own}
 use Rattle.state.specs.Status.{is_check, confirmed_status}
 use Rattle.state.specs.Valid.{version_record_ok, Sound}
-use Rattle.state.specs.Version.{empty_version, restatus, record_at, held, HeldIn}
+use Rattle.state.specs.Version.{empty_version, restatus, record_at, held, HeldIn, held_version}
 use Rattle.state.specs.declared.Desk.{Desk}
-use Rattle.state.specs.declared.Held.{Held}
-use Rattle.state.specs.declared.Held.TheVariants.{Absent, Has}
+use Rattle.state.specs.declared.HeldVersion.{HeldVersion}
 use Rattle.state.specs.declared.PointState.{PointState}
 use Rattle.state.specs.declared.Status.TheVariants.{Check}
 use Rattle.state.specs.declared.VersionRecord.{VersionRecord}
@@ -35,9 +35,8 @@ use Rattle.model.specs.Log.{turn_of, due}
 use Rattle.model.specs.Step.{amend_by, amended, granting}
 use Rattle.model.specs.View.{view_of}
 use Rattle.model.specs.declared.Answer.TheVariants.{Accepted}
-use Rattle.model.specs.declared.Due.{Due}
+use Rattle.model.specs.declared.LogRow.{LogRow}
 use Rattle.model.specs.declared.Turn.{Turn}
-use Rattle.model.specs.declared.Ruling.TheVariants.{Fine}
 use Rattle.model.proofs.Rules.{passed, past}
 use Rattle.model.proofs.Selections.{noticed-restated, restated-all}
 use Rattle.amend.proofs.Logs.{room-left}
@@ -54,21 +53,21 @@ use Rattle.notice.specs.Notice.{noticed_in, own_by, turn_by, noticed_record, Che
 own-noticed : (run c p x y day : ℕ) (vs : List VersionRecord) → own run p (noticed c p x y day vs) ≡ own_by run y (confirmed_status c day) (held p x vs) (own run p vs)
 own-noticed run c p x y day vs = go (held p x vs) refl
   where
-    Goal : Held → Type 0
+    Goal : Option HeldVersion → Type 0
     Goal h = own run p (noticed c p x y day vs) ≡ own_by run y (confirmed_status c day) h (own run p vs)
 
-    positive : (i : ℕ) (v : VersionRecord) → held p x vs ≡ Has i v → is_check v.status ≡ true → Dec (y ≡ 1) → Goal (Has i v)
+    positive : (i : ℕ) (v : VersionRecord) → held p x vs ≡ Some (held_version i v) → is_check v.status ≡ true → Dec (y ≡ 1) → Goal (Some (held_version i v))
     positive i v e t (yes one) = rw (one, t) (notice-own run c p x day i v vs e (is-check v.status t))
     positive i v e t (no ne) = rw (notice-negative c p x y day vs ne, ne_eqb y 1 ne)
 
     -- only check data turns
-    by : (i : ℕ) (v : VersionRecord) → held p x vs ≡ Has i v → (t : Bool) → is_check v.status ≡ t → Goal (Has i v)
+    by : (i : ℕ) (v : VersionRecord) → held p x vs ≡ Some (held_version i v) → (t : Bool) → is_check v.status ≡ t → Goal (Some (held_version i v))
     by i v e true t = positive i v e t (ℕ_discrete y 1)
     by i v e false t = rw (e, t, and-false (eqb y 1))
 
-    go : (h : Held) → held p x vs ≡ h → Goal h
-    go Absent e = rw e
-    go (Has i v) e = by i v e (is_check v.status) refl
+    go : (h : Option HeldVersion) → held p x vs ≡ h → Goal h
+    go None e = rw e
+    go (Some h) e = by h.at h.record e (is_check h.record.status) refl
 
 -- what a notice makes of the selections found is what it makes of the point's versions
 pub turned : (d : Desk) (p x y day : ℕ) (s : Survey) → Surveyed p x (versions_in d) s → turn_by d.frame y day s ≡ turn_of (versions_in d) (noticed_in d p x y day) p
@@ -79,7 +78,7 @@ turned d p x y day s f =
     λ i. record { old1 = f.first i; new1 = new1 i; old2 = f.second i; new2 = new2 i }
 
 -- the table with the record found as the notice leaves it
-pub noticed-table : (c y day i : ℕ) (v : VersionRecord) (vs : List VersionRecord) → record_at vs i ≡ v → v.status ≡ Check → set vs i (noticed_record c y day v) ≡ confirm c y day (Has i v) vs
+pub noticed-table : (c y day i : ℕ) (v : VersionRecord) (vs : List VersionRecord) → record_at vs i ≡ v → v.status ≡ Check → set vs i (noticed_record c y day v) ≡ confirm c y day (Some (held_version i v)) vs
 noticed-table c y day i v vs e s = let check : is_check v.status ≡ true = ap is_check s in rw check (go (eqb y 1))
   where
     go : (t : Bool) → set vs i (cond t (restatus (confirmed_status c day) v) v) ≡ cond (t && true) (set vs i (restatus (confirmed_status c day) v)) vs
@@ -87,23 +86,23 @@ noticed-table c y day i v vs e s = let check : is_check v.status ≡ true = ap i
     go false = ap (set vs i) (sym e) ∙ set-get_or vs i empty_version
 
 -- a version found among the versions held stands in the table
-stands : (d : Desk) (p x : ℕ) (h : Held) → HeldIn p x (versions_in d) (length (versions_in d)) h → d.frame.count ≤ versions → length d.versions ≡ versions → StandsIn d.versions h
-stands d p x Absent k few long = tt
-stands d p x (Has i v) k few long =
+stands : (d : Desk) (p x : ℕ) (h : Option HeldVersion) → HeldIn p x (versions_in d) (length (versions_in d)) h → d.frame.count ≤ versions → length d.versions ≡ versions → StandsIn d.versions h
+stands d p x None k few long = tt
+stands d p x (Some h) k few long =
     let n = length-take-le d.frame.count d.versions (omega arith) in
-    sym (get_or-take d.frame.count d.versions i empty_version (omega (arith, k.within))) ∙ k.here
+    sym (get_or-take d.frame.count d.versions h.at empty_version (omega (arith, k.within))) ∙ k.here
 
 -- past cause 25 the version found is check data
-check-found : (d : Desk) (p x : ℕ) (h : Held) → HeldIn p x (versions_in d) (length (versions_in d)) h → d.frame.count ≤ versions → length d.versions ≡ versions → not_check h ≡ false → CheckFound h
+check-found : (d : Desk) (p x : ℕ) (h : Option HeldVersion) → HeldIn p x (versions_in d) (length (versions_in d)) h → d.frame.count ≤ versions → length d.versions ≡ versions → not_check h ≡ false → CheckFound h
 unfolding not_check
-check-found d p x Absent k few long e = absurd (true≢false e)
-check-found d p x (Has i v) k few long e =
+check-found d p x None k few long e = absurd (true≢false e)
+check-found d p x (Some h) k few long e =
     let n = length-take-le d.frame.count d.versions (omega arith) in
-    (omega (arith, k.within), is-check v.status (not-false (is_check v.status) e))
+    (omega (arith, k.within), is-check h.record.status (not-false (is_check h.record.status) e))
 
-module _ (d : Desk) (p x y day : ℕ) (values book log : List ℕ) (h : Held) (t : Turn) (o : Due) (s : Sound d) (table : length d.versions ≡ versions)
+module _ (d : Desk) (p x y day : ℕ) (values book log : List ℕ) (h : Option HeldVersion) (t : Turn) (o : Option LogRow) (s : Sound d) (table : length d.versions ≡ versions)
     (H : h ≡ held p x (versions_in d)) (T : t ≡ turn_of (versions_in d) (noticed_in d p x y day) p) (D : o ≡ due (versions_in d) (noticed_in d p x y day) p day) where
-  pub notice-allowed : {here : PointState} → here ≡ point_at d.points p → first_of (rules (view_of d) (lengths_in no_lengths (sizes_of values book log)) (notices p x y day)) ≡ Fine → NoticeFits d.frame here h values book log t o
+  pub notice-allowed : {here : PointState} → here ≡ point_at d.points p → first_of (rules (view_of d) (lengths_in no_lengths (sizes_of values book log)) (notices p x y day)) ≡ Ok tt → NoticeFits d.frame here h values book log t o
   notice-allowed known fine =
       let P = passed (rules (view_of d) (lengths_in no_lengths (sizes_of values book log)) (notices p x y day)) fine in
       let n = lengths no_lengths (sizes_of values book log) d.frame.opening (past 2 (rules (view_of d) (lengths_in no_lengths (sizes_of values book log)) (notices p x y day)) P) in

@@ -16,30 +16,37 @@ use crate::conditions::notice_ok;
 use amend::log::due_by;
 use amend::turns::follow;
 use checks::decisions::{accept, outcome, refuse};
-use checks::looks::{absent, asking_versions, is_open, look, not_check};
+use checks::looks::{asking_versions, is_open, look, not_check};
 use checks::points::is_active;
-use checks::rules::or_if;
+use checks::rules::refuse_if;
 use checks::stores::{log_full, other_lengths};
 use checks::{Decided, Look, Outcome, Sizes, Survey};
-use model::{Cause, Due, Ruling, Turn};
+use model::{Cause, LogRow, Turn};
 use quantity::{Day, PointNo, Version};
 use state::changes::{put_version, restated};
 use state::effects::unchanged;
 use state::selections::{raised_earlier, row_at};
 use state::statuses::{confirmed_status, counts_in, is_check};
-use state::{Desk, Effect, Frame, Held, Opening, PointState, Selection, Status, VersionRecord};
+use state::{
+    Desk, Effect, Frame, HeldVersion, Opening, PointState, Selection, Status, VersionRecord,
+};
 
 // What a notice on the version found makes of a run's own selection; positive, it gives check data the status `confirmed`. A higher one that counts
 // stays; the table refuses such a notice (37).
-fn own_after(run: u64, old: Selection, held: Held, verdict: u64, confirmed: Status) -> Selection
+fn own_after(
+    run: u64,
+    old: Selection,
+    held: Option<HeldVersion>,
+    verdict: u64,
+    confirmed: Status,
+) -> Selection
     ensures { result ≡ own_by run verdict confirmed held old }
 {
     match held {
-        Held::Absent => old,
-        Held::Has { at, record } => {
-            let status = record.status;
-            if (verdict == 1) & (is_check(status) & counts_in(run, confirmed)) {
-                raised_earlier(old, row_at(at, restated(record, confirmed)))
+        None => old,
+        Some(found) => {
+            if (verdict == 1) & (is_check(found.record.status) & counts_in(run, confirmed)) {
+                raised_earlier(old, row_at(found.at, restated(found.record, confirmed)))
             } else {
                 old
             }
@@ -51,64 +58,51 @@ fn own_after(run: u64, old: Selection, held: Held, verdict: u64, confirmed: Stat
 pub fn notice_turn(f: Frame, s: Survey, verdict: u64, day: Day) -> Turn
     ensures { result ≡ turn_by f verdict day.0 s }
 {
-    let opening = f.opening;
-    let clearing = opening.clearing;
-    let held = s.held;
-    let old1 = s.first;
-    let old2 = s.second;
-    let confirmed = confirmed_status(clearing, day);
-    let new1 = own_after(1, old1, held, verdict, confirmed);
-    let new2 = own_after(2, old2, held, verdict, confirmed);
+    let confirmed = confirmed_status(f.opening.clearing, day);
+    let new1 = own_after(1, s.first, s.held, verdict, confirmed);
+    let new2 = own_after(2, s.second, s.held, verdict, confirmed);
     Turn {
-        old1,
+        old1: s.first,
         new1,
-        old2,
+        old2: s.second,
         new2,
     }
 }
 
 // The table's lines for a notice, in their order.
+#[tactic(auto, unfolding(model::specs::Causes::first_of, model::specs::Causes::or_if, model::specs::Causes::is_absent, quantity::specs::Lists::fold))]
 fn notice_ruling(
     f: Frame,
     l: Look,
-    due: Due,
+    due: Option<LogRow>,
     point: PointNo,
     version: Version,
     verdict: u64,
     day: Day,
     n: Sizes,
-) -> Ruling
+) -> Result<(), Cause>
     requires { 4 * f.used ≤ f.opening.log }
     ensures { OfEach f (asking_versions point.0 version.0) l (λ d. due ≡ due_of (versions_in d) (noticed_in d point.0 version.0 verdict day.0) point.0 day.0 → (m : Lengths) → result ≡ first_of (rules (view_of d) (lengths_in m n) (notices point.0 version.0 verdict day.0))) }
 {
     let o = f.opening;
-    let here = l.here;
-    let found = l.survey;
-    let held = found.held;
-    let highest = found.highest;
-    let k0 = or_if(Ruling::Fine, !is_open(o), Cause::NotOpen);
-    let k1 = or_if(k0, other_lengths(o, n), Cause::WrongLength);
-    let k2 = or_if(
-        k1,
-        !notice_ok(point, version, verdict, day),
-        Cause::BadField,
-    );
-    let k3 = or_if(k2, day.0 < f.day.0, Cause::PastDay);
-    let k4 = or_if(k3, o.correction.0 < day.0, Cause::AfterCorrection);
-    let k5 = or_if(k4, !is_active(here), Cause::NotActive);
-    let k6 = or_if(k5, absent(held), Cause::NoVersion);
-    let k7 = or_if(k6, version.0 < highest.0, Cause::NoticeBelow);
-    let k8 = or_if(k7, not_check(held), Cause::NotCheckData);
-    or_if(k8, log_full(f.used, o.log, due), Cause::NoLogRow)
+    refuse_if(!is_open(o), Cause::NotOpen)?;
+    refuse_if(other_lengths(o, n), Cause::WrongLength)?;
+    refuse_if(!notice_ok(point, version, verdict, day), Cause::BadField)?;
+    refuse_if(day.0 < f.day.0, Cause::PastDay)?;
+    refuse_if(o.correction.0 < day.0, Cause::AfterCorrection)?;
+    refuse_if(!is_active(l.here), Cause::NotActive)?;
+    refuse_if(l.survey.held.is_none(), Cause::NoVersion)?;
+    refuse_if(version.0 < l.survey.highest.0, Cause::NoticeBelow)?;
+    refuse_if(not_check(l.survey.held), Cause::NotCheckData)?;
+    refuse_if(log_full(f.used, o.log, due), Cause::NoLogRow)
 }
 
 // The record of the version found, as the notice leaves it.
 fn noticed_record(v: VersionRecord, o: Opening, verdict: u64, day: Day) -> VersionRecord
     ensures { result ≡ noticed_record o.clearing.0 verdict day.0 v }
 {
-    let clearing = o.clearing;
     if verdict == 1 {
-        restated(v, confirmed_status(clearing, day))
+        restated(v, confirmed_status(o.clearing, day))
     } else {
         v
     }
@@ -118,9 +112,9 @@ fn noticed_record(v: VersionRecord, o: Opening, verdict: u64, day: Day) -> Versi
 fn notice_granted(
     f: Frame,
     here: PointState,
-    held: Held,
+    held: Option<HeldVersion>,
     turn: Turn,
-    due: Due,
+    due: Option<LogRow>,
     verdict: u64,
     day: Day,
     values: &[u64],
@@ -130,13 +124,12 @@ fn notice_granted(
     requires { NoticeFits f here held values.now book.old log.old turn due }
     ensures { NoticeEffect f here held turn due verdict day.0 values.now book.old log.old result book.new log.new }
 {
-    let Held::Has { at, record } = held else {
+    let Some(found) = held else {
         return unchanged(f);
     };
-    let opening = f.opening;
     let used = follow(f, here, turn, due, values, book, log);
-    let after = noticed_record(record, opening, verdict, day);
-    put_version(f, at, after, f.count, used, day)
+    let after = noticed_record(found.record, f.opening, verdict, day);
+    put_version(f, found.at, after, f.count, used, day)
 }
 
 // By the desk's frame and one look at it.
@@ -162,16 +155,23 @@ pub fn decide_notice(
         book: book.len() as u64,
         log: log.len() as u64,
     };
-    let found = l.survey;
-    let turn = notice_turn(f, found, verdict, day);
+    let turn = notice_turn(f, l.survey, verdict, day);
     let due = due_by(turn, point, day);
-    let decided = notice_ruling(f, l, due, point, version, verdict, day, n);
-    match decided {
-        Ruling::Refuse(cause) => refuse(f, cause),
-        Ruling::Fine => {
-            let here = l.here;
-            let held = found.held;
-            accept(notice_granted(f, here, held, turn, due, verdict, day, values, book, log))
+    match notice_ruling(f, l, due, point, version, verdict, day, n) {
+        Err(cause) => refuse(f, cause),
+        Ok(()) => {
+            accept(notice_granted(
+                f,
+                l.here,
+                l.survey.held,
+                turn,
+                due,
+                verdict,
+                day,
+                values,
+                book,
+                log,
+            ))
         }
     }
 }
@@ -189,7 +189,6 @@ pub fn notice(
     ensures { Stepped d (notices point.0 version.0 verdict day.0) values.now book.old log.old result.answer result.desk values.now book.new log.new }
 {
     let l = look(d, asking_versions(point, version));
-    let frame = d.frame;
-    let r = decide_notice(frame, l, point, version, verdict, day, values, book, log);
+    let r = decide_notice(d.frame, l, point, version, verdict, day, values, book, log);
     outcome(d, r)
 }

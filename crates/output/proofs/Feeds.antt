@@ -9,6 +9,7 @@ use borrow.Author.Tests.{eqb-true, leb-true, not-false}
 use lib.Dec.{leb, eqb}
 use lib.IntN.{ℤ, pos, nat_abs}
 use lib.ListN.{length, get_or}
+use Rattle.std.specs.Prelude.{Ok, Err}
 use Rattle.quantity.specs.Limits.{points, most_energy, book_rows, quarters_ok, deadlines_ok, point_ok, version_ok, day_ok, energy_ok}
 use Rattle.quantity.specs.Lists.{all, fold}
 use Rattle.quantity.proofs.Lists.{all-at}
@@ -22,11 +23,9 @@ use Rattle.state.specs.Walk.{walk}
 use Rattle.state.specs.declared.Selection.{Selection}
 use Rattle.state.specs.declared.Selection.TheVariants.{None, Selected}
 use Rattle.model.specs.Call.{Call, opens, activates, deactivates, submits, notices, assigns, shows, asks, closes, issues, lodges, reports, Lengths, Told, answer_number}
-use Rattle.model.specs.Causes.{opening_by, opens_ok, or_if, first_of, rules, refusal}
+use Rattle.model.specs.Causes.{opening_by, opens_ok, or_if, first_of, rules, refusal, Ruling}
 use Rattle.model.specs.Plain.{opening_of, points_of, versions_of, energies_of, view_in, outside, answered, joined, plain_reply, plain_next, plain_end, worked_out, after}
 use Rattle.model.specs.Series.{energy, is_outside, outside_of}
-use Rattle.model.specs.declared.Ruling.{Ruling}
-use Rattle.model.specs.declared.Ruling.TheVariants.{Fine, Refuse}
 use Rattle.model.proofs.Invariant.{quarters-in}
 use Rattle.model.proofs.Lists.{all-snoc}
 use Rattle.model.proofs.Rules.{passed}
@@ -35,16 +34,16 @@ use Rattle.text.specs.Text.{each_to}
 use Rattle.output.specs.Output.{program_quarters, lent, selection_text, selections_text}
 
 -- a call that is refused leaves the list
-joins : (P : List Told → Type 0) (h : List Told) (t : Told) → P h → (refusal (view_in h) t ≡ Fine → P (t ∷ h)) → P (plain_next h t)
+joins : (P : List Told → Type 0) (h : List Told) (t : Told) → P h → (refusal (view_in h) t ≡ Ok tt → P (t ∷ h)) → P (plain_next h t)
 unfolding plain_next joined
 joins P h t p f = by (refusal (view_in h) t) refl
   where
     by : (v : Ruling) → refusal (view_in h) t ≡ v → P (joined v h t)
-    by Fine e = f e
-    by (Refuse x) e = p
+    by (Ok tt) e = f e
+    by (Err x) e = p
 
 -- what each accepted call keeps stands at the end
-module _ (P : List Told → Type 0) (n : Lengths) (next : (h : List Told) (c : Call) → P h → refusal (view_in h) (told_as n h c) ≡ Fine → P (told_as n h c ∷ h)) where
+module _ (P : List Told → Type 0) (n : Lengths) (next : (h : List Told) (c : Call) → P h → refusal (view_in h) (told_as n h c) ≡ Ok tt → P (told_as n h c ∷ h)) where
   kept : (h : List Told) (cs : List Call) → P h → P (plain_end h (tells n h cs))
   unfolding tells plain_end
   kept h [] p = p
@@ -72,7 +71,7 @@ taken-few m q f c k gs e =
 abbrev Few : List Told → Type 0
 Few h = (opening_of h).quarters ≤ program_quarters
 
-few-next : (h : List Told) (c : Call) → Few h → refusal (view_in h) (told_as lent h c) ≡ Fine → Few (told_as lent h c ∷ h)
+few-next : (h : List Told) (c : Call) → Few h → refusal (view_in h) (told_as lent h c) ≡ Ok tt → Few (told_as lent h c ∷ h)
 unfolding refusal worked_out after fold
 few-next h (opens q f c k gs) p e = taken-few (opening_of h).quarters q f c k gs (not-false _ (passed (rules (view_in h) _ (opens q f c k gs)) e).1.0)
 few-next h (activates x k a b d) p e = p
@@ -112,7 +111,7 @@ nine-quarters h q f c k gs more = by (is_open (opening_of h)) refl (opens_ok (op
 abbrev Fit : List Told → Type 0
 Fit h = all (all energy_ok) (energies_of h) ≡ true
 
-fit-next : (n : Lengths) (h : List Told) (c : Call) → Fit h → refusal (view_in h) (told_as n h c) ≡ Fine → Fit (told_as n h c ∷ h)
+fit-next : (n : Lengths) (h : List Told) (c : Call) → Fit h → refusal (view_in h) (told_as n h c) ≡ Ok tt → Fit (told_as n h c ∷ h)
 unfolding refusal worked_out after fold
 fit-next n h (opens q f c k gs) p e = p
 fit-next n h (activates x k a b d) p e = p
@@ -160,7 +159,7 @@ Bare h = (opening_of h).quarters ≡ 0 → versions_of h ≡ []
 opened : {A : Type 0} (h : List Told) → not (is_open (opening_of h)) ≡ false → (opening_of h).quarters ≡ 0 → A
 opened h e z = let shut : is_open (opening_of h) ≡ false = rw z in absurd (true≢false (sym (not-false _ e) ∙ shut))
 
-bare-next : (h : List Told) (c : Call) → Bare h → refusal (view_in h) (told_as lent h c) ≡ Fine → Bare (told_as lent h c ∷ h)
+bare-next : (h : List Told) (c : Call) → Bare h → refusal (view_in h) (told_as lent h c) ≡ Ok tt → Bare (told_as lent h c ∷ h)
 unfolding refusal view_in worked_out after fold opens_ok
 bare-next h (opens q f c k gs) p e =
     let n = lengths_for lent (opening_of h).quarters (opens q f c k gs) in

@@ -1,12 +1,12 @@
 -- The output of a replay in the program's stores is that of the file. Assumes nothing.
-use Prim.Native.Nat.{ℕ, suc, ◌+◌, ◌-◌, ◌*◌, ◌^◌, ◌≤◌, ◌<◌}
+use Prim.Native.Nat.{ℕ, suc, ◌-◌, ◌*◌, ◌^◌, ◌≤◌, ◌<◌}
 use mathlib.Core.Path.{◌≡◌, refl, sym, ap, ap₂, ◌∙◌, subst}
 use mathlib.Core.List.{List, [], ◌∷◌, ◌++◌, map}
 use native.Mathlib.Omega.{arith}
 use borrow.Author.Tests.{le-leb, lt-ltb}
 use lib.IntN.{ℤ, nat_abs}
 use lib.ListN.{length, get_or, take, drop, length-map}
-use lib.Seq.{get_or-take, take_all, take-append_seam}
+use lib.Seq.{length-take-le, take_all, take-append_seam}
 use Rattle.quantity.specs.Limits.{runs, groups, points, most_energy}
 use Rattle.quantity.specs.Sum.{sum_to}
 use Rattle.quantity.specs.Word.{signed}
@@ -130,6 +130,13 @@ module _ (file : List ℕ) (s : Stores) (buffer output : List ℕ) (r : Replayed
     pub answered-few : r.answered ≤ most_calls
     answered-few = omega (arith, R.answered, ap (λ (l : List Given). length l) calls-all, few-calls series_size file small, given-few (found_in file).calls)
 
+    module _ (long : length output' ≡ length output) where
+      pub answers-within : r.answered ≤ length output'
+      answers-within = omega (arith, answered-few, long, Z.answers)
+
+      pub answers-long : length (take r.answered output') ≡ r.answered
+      answers-long = length-take-le r.answered output' answers-within
+
     pub answers-are : take r.answered output' ≡ numbers_of (plain_replies [] (told_in file))
     answers-are =
         let l = numbers_of (plain_replies [] (told_in file)) in
@@ -137,9 +144,8 @@ module _ (file : List ℕ) (s : Stores) (buffer output : List ℕ) (r : Replayed
         ap₂ take n (R.gives.answers ∙ ap (λ (x : List Told). over (numbers_of (plain_replies [] x)) output) told-all)
         ∙ take-append_seam l (drop (length l) output)
 
-    pub short : Short output' r.answered
-    short i less =
-        rw (← get_or-take r.answered output' i 0 less, answers-are) (answers-short (plain_replies [] (told_in file)) i)
+    pub short : Short (take r.answered output') (length (take r.answered output'))
+    short i less = rw answers-are (answers-short (plain_replies [] (told_in file)) i)
 
     ending-is : r.ending ≡ ending_of (length file) (length output) (found_in file)
     ending-is = R.ending ∙ ap (λ (n : ℕ). ending_of (length file) (length output) (calls_in n file)) Z.series

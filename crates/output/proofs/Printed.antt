@@ -26,7 +26,7 @@ use Rattle.message.specs.Cause.{cause_number}
 use Rattle.message.specs.File.{Ending, whole, stopped, CarriedAll, calls_in, verdict_of, offset_of}
 use Rattle.message.specs.Named.{call_of, later_call_of}
 use Rattle.message.specs.declared.FileCause.{FileCause}
-use Rattle.message.specs.declared.Named.TheVariants.{Known}
+use Rattle.std.specs.Prelude.{Some}
 use Rattle.message.specs.declared.DeskCall.{DeskCall}
 use Rattle.message.proofs.ByKind.{each-kind}
 use Rattle.message.proofs.Files.{read-carried}
@@ -41,8 +41,7 @@ use Rattle.text.specs.Text.{each_to}
 use Rattle.text.proofs.Lines.{answer-shows, refusal-shows, group-shows, total-shows, selection-shows}
 use Rattle.output.specs.Fill.{most, Fills}
 use Rattle.output.specs.Laws.{place_of, Earlier, Printed, file_of, calls_of, told_of, accepted_of, refused_by, Due, Buffered}
-use Rattle.output.specs.declared.Filled.{Filled}
-use Rattle.output.specs.declared.Filled.TheVariants.{Length, TooSmall}
+use Rattle.std.specs.Prelude.{Option, Some, None as NoLength}
 use Rattle.output.specs.Output.{lent, answers_text, group_text, quarter_text, month_text, figures_text, selection_text, selections_text, end_text, text_of, output_of}
 use Rattle.output.proofs.Feeds.{none-held}
 use Rattle.output.proofs.Lines.{both, no-line, one-line, Begins, before, each-line}
@@ -151,10 +150,10 @@ selections-printed vs =
 -- ---- the whole output
 
 -- a call of each kind has a name
-named : (k : ℕ) → is_kind k ≡ true → (f : List ℕ) → (d : DeskCall) × (call_of k f ≡ Known d)
+named : (k : ℕ) → is_kind k ≡ true → (f : List ℕ) → (d : DeskCall) × (call_of k f ≡ Some d)
 unfolding call_of later_call_of
 named =
-    each-kind (λ (k : ℕ). (f : List ℕ) → (d : DeskCall) × (call_of k f ≡ Known d))
+    each-kind (λ (k : ℕ). (f : List ℕ) → (d : DeskCall) × (call_of k f ≡ Some d))
     (λ f. (_, refl)) (λ f. (_, refl)) (λ f. (_, refl)) (λ f. (_, refl)) (λ f. (_, refl)) (λ f. (_, refl)) (λ f. (_, refl)) (λ f. (_, refl))
 
 given-all : (cs : List Sent) → CarriedAll cs → length (given_in cs) ≡ length cs
@@ -276,15 +275,15 @@ module _ (input : List ℕ) where
       by (stopped c) e = stopped-printed c e
 
 -- so a buffer that was filled has them
-pub fills-printed : (input before after : List ℕ) (r : Filled) → Fills input before after r → Buffered input before after r
+pub fills-printed : (input before after : List ℕ) (r : Option ℕ) → Fills input before after r → Buffered input before after r
 fills-printed input before after r F = record { enough = enough; small = small }
   where
-    enough : 330781 ≤ length before → (n : ℕ) × (r ≡ Length n) × Printed (Due input) (take n after) × (drop n after ≡ drop n before)
+    enough : 330781 ≤ length before → (n : ℕ) × (r ≡ Some n) × Printed (Due input) (take n after) × (drop n after ≡ drop n before)
     enough h =
         let t : leb most (length before) ≡ true = le-leb most (length before) h in
         let o = output_of input in
         let all : after ≡ over o before = rw t at F.buffer in
         (length o, rw t at F.answer, rw (all, take-append_seam o (drop (length o) before)) (output-printed input), rw (all, drop_at o (drop (length o) before) (length o) refl))
 
-    small : length before < 330781 → (r ≡ TooSmall) × (after ≡ before)
+    small : length before < 330781 → (r ≡ NoLength) × (after ≡ before)
     small h = let t : leb most (length before) ≡ false = lt-leb most (length before) h in (rw t at F.answer, rw t at F.buffer)

@@ -1,5 +1,5 @@
 -- Laws of the output's parts. Assumes nothing.
-use Prim.Native.Nat.{ℕ, suc, ◌+◌, ◌-◌, ◌^◌, ◌<◌, ◌≤◌}
+use Prim.Native.Nat.{ℕ, suc, ◌+◌, ◌-◌, ◌^◌, ◌<◌}
 use mathlib.Core.Path.{◌≡◌, refl, sym, ap, ap₂, ◌∙◌}
 use mathlib.Core.Bool.{false}
 use mathlib.Core.List.{List, [], ◌++◌}
@@ -8,8 +8,7 @@ use native.Mathlib.Omega.{arith}
 use borrow.Author.Tests.{ne_eqb}
 use lib.Dec.{eqb}
 use lib.IntN.{ℤ, nat_abs}
-use lib.ListN.{length, get_or, take}
-use lib.Seq.{get_or-take, length-take-le}
+use lib.ListN.{length, get_or}
 use mir.Syntax.{w64}
 use mir.Facts.{to_z_pos, to_z-neg}
 use Rattle.quantity.specs.Limits.{runs, points, groups}
@@ -32,17 +31,13 @@ abbrev pub answer_at : List ℕ → ℕ → List ℕ
 answer_at l n = answer_line n (get_or l (n - 1) 0)
 
 -- that of the next call, by what stands behind the answers so far
-pub answer-next : (l : List ℕ) (n i : ℕ) → i < n → answer_line (i + 1) (get_or l i 0) ≡ answer_at (take n l) (i + 1)
-answer-next l n i h =
-    let e : i + 1 - 1 ≡ i = omega arith in
-    rw e (ap (answer_line (i + 1)) (sym (get_or-take n l i 0 h)))
+pub answer-next : (l : List ℕ) (i : ℕ) → answer_line (i + 1) (get_or l i 0) ≡ answer_at l (i + 1)
+answer-next l i = let e : i + 1 - 1 ≡ i = omega arith in rw e refl
 
 -- all of them
-pub answers-all : (l : List ℕ) (n i : ℕ) → n ≤ i → i ≤ n → n ≤ length l → each_to i (answer_at (take n l)) ≡ answers_text (take n l)
+pub answers-all : (l : List ℕ) → each_to (length l) (answer_at l) ≡ answers_text l
 unfolding answers_text
-answers-all l n i h k m =
-    let e : i ≡ length (take n l) = omega (arith, length-take-le n l m) in
-    ap (λ (j : ℕ). each_to j (answer_at (take n l))) e
+answers-all l = refl
 
 module _ (run quarter group : ℕ) where
   -- a figure of 0

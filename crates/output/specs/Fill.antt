@@ -1,10 +1,8 @@
 -- A buffer filled with the output.
-use Rattle.std.specs.Prelude.{ℕ, ◌+◌, ◌*◌, ◌≡◌, cond, List, leb, length}
+use Rattle.std.specs.Prelude.{ℕ, ◌+◌, ◌*◌, ◌≡◌, cond, List, leb, length, Option, Some, None}
 use Rattle.quantity.specs.Limits.{runs, points, groups}
 use Rattle.replay.specs.Replay.{over}
 use Rattle.output.specs.Output.{program_quarters, output_of}
-use Rattle.output.specs.declared.Filled.{Filled}
-use Rattle.output.specs.declared.Filled.TheVariants.{Length, TooSmall}
 
 -- the calls that 65,536 bytes hold at most
 abbrev pub most_calls : ℕ
@@ -54,15 +52,15 @@ end_room = figures_room + selections_room
 abbrev pub most : ℕ
 most = answer_room * most_calls + end_room
 
--- the output's length, or that a buffer of so many bytes is too small
-abbrev pub filled_of : (room : ℕ) (text : List ℕ) → Filled
-filled_of room t = cond (leb most room) (Length (length t)) TooSmall
+-- the output's length; none where a buffer of so many bytes is too small
+abbrev pub filled_of : (room : ℕ) (text : List ℕ) → Option ℕ
+filled_of room t = cond (leb most room) (Some (length t)) None
 
 -- the buffer after it: the text, and behind it what stood there; one that is too small stays as it was
 abbrev pub buffer_after : (text before : List ℕ) → List ℕ
 buffer_after t b = cond (leb most (length b)) (over t b) b
 
 -- a buffer was filled with the output for an input
-pub record Fills (input before after : List ℕ) (r : Filled) : Type 0 where
+pub record Fills (input before after : List ℕ) (r : Option ℕ) : Type 0 where
   pub answer : r ≡ filled_of (length before) (output_of input)
   pub buffer : after ≡ buffer_after (output_of input) before

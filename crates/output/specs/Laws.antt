@@ -1,6 +1,6 @@
 -- The whole output as a list of lines, said in the papers' numbers: which lines there are, in which order, and that the output is their texts. What
 -- `output_of` is judged by.
-use Rattle.std.specs.Prelude.{ℕ, ◌-◌, ◌≤◌, ◌<◌, ◌≡◌, pos, length, get_or, take, drop}
+use Rattle.std.specs.Prelude.{ℕ, ◌-◌, ◌≤◌, ◌<◌, ◌≡◌, pos, length, get_or, take, drop, Option, Some, None}
 use mathlib.Core.List.{List, [], ◌∷◌, ◌++◌, map, Memᴰ}
 use Rattle.quantity.specs.Meaning.{Between}
 use Rattle.quantity.specs.Sum.{sum_to}
@@ -15,8 +15,6 @@ use Rattle.model.specs.Plain.{opening_of, versions_of, figure, plain_replies, pl
 use Rattle.replay.specs.Feeding.{tells}
 use Rattle.replay.specs.Given.{given, given_in}
 use Rattle.replay.specs.Replay.{numbers_of}
-use Rattle.output.specs.declared.Filled.{Filled}
-use Rattle.output.specs.declared.Filled.TheVariants.{Length, TooSmall}
 use Rattle.text.specs.Laws.{Line, answer, refusal, group, total, chosen, Shows}
 
 -- ---- lists of lines
@@ -104,6 +102,6 @@ Due input (chosen r p x s) =
     × ((v : VersionRow) × (selected r p (versions_of (accepted_of input)) ≡ Selected v) × (v.version.0 ≡ x) × (status_number v.status ≡ s))
 
 -- the lines that are due stand in a buffer from its start on, and all behind them is as it was; one of fewer than 330,781 bytes is as it was
-pub record Buffered (input before after : List ℕ) (r : Filled) : Type 0 where
-  pub enough : 330781 ≤ length before → (n : ℕ) × (r ≡ Length n) × Printed (Due input) (take n after) × (drop n after ≡ drop n before)
-  pub small : length before < 330781 → (r ≡ TooSmall) × (after ≡ before)
+pub record Buffered (input before after : List ℕ) (r : Option ℕ) : Type 0 where
+  pub enough : 330781 ≤ length before → (n : ℕ) × (r ≡ Some n) × Printed (Due input) (take n after) × (drop n after ≡ drop n before)
+  pub small : length before < 330781 → (r ≡ None) × (after ≡ before)

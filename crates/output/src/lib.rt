@@ -5,14 +5,16 @@ mod figures;
 mod print;
 mod selections;
 
-ghost use Rattle.std.specs.Prelude.{◌≤◌, min, ◌≡◌, length};
+ghost use Rattle.std.specs.Prelude.{◌≤◌, length};
 ghost use Rattle.text.specs.Text.{Put};
 ghost use Rattle.output.specs.Fill.{most, Fills};
 ghost use Rattle.output.specs.Parts.{Sized};
 ghost use Rattle.output.specs.Output.{file_size, text_of};
 
+use figures::Month;
 use print::{put_answers, put_ending};
 use quantity::limits::{BOOK_ROWS, QUARTERS, SCHEDULE_ROWS};
+use text::Text;
 
 // A buffer of so many bytes is enough for any input.
 pub const MOST: usize = 330_781;
@@ -33,14 +35,6 @@ const SERIES: usize = QUARTERS as usize;
 
 const ANSWERS: usize = 21_846;
 
-#[derive(Clone, Copy)]
-pub enum Filled {
-    // So many bytes of the buffer, from its start on, are the output.
-    Length(usize),
-    // The buffer has fewer than MOST bytes, and is as it was.
-    TooSmall,
-}
-
 // The output for a file, in lent stores of the desk program's sizes.
 fn put_output(
     file: &[u8],
@@ -56,48 +50,40 @@ fn put_output(
     ensures { Put most 0 (text_of file.now) out.old out.new result }
 {
     let done = replay::replay(file, values, book, log, schedules, series, answers);
-    let ending = done.ending;
-    let desk = done.desk;
-    let frame = desk.frame;
-    let opening = frame.opening;
-    let next = put_answers(out, 0, answers, done.answered);
-    let versions = desk.versions;
+    let desk = &done.desk;
+    let mut text = Text {
+        buffer: out,
+        filled: 0,
+    };
+    put_answers(&mut text, &answers[..done.answered]);
     put_ending(
-        out,
-        next,
-        ending,
-        opening.quarters as usize,
-        book,
-        versions,
-        frame.count,
-    )
+        &mut text,
+        done.ending,
+        &Month {
+            book,
+            quarters: desk.frame.opening.quarters as usize,
+        },
+        desk.versions,
+        desk.frame.count,
+    );
+    text.filled
 }
 
-// How many bytes of an input of so many are read.
-fn read_of(n: usize) -> usize
-    ensures { result ≡ min file_size n }
-{
-    if n < FILE {
-        return n;
-    }
-    FILE
-}
-
-// Fills a buffer with the output for an input.
-pub fn fill(input: &[u8], out: &mut [u8]) -> Filled
+// Fills a buffer with the output for an input, and answers the output's length; none where the buffer has fewer than MOST bytes, and it is as it was.
+pub fn fill(input: &[u8], out: &mut [u8]) -> Option<usize>
     ensures { Fills input.now out.old out.new result }
 {
     if out.len() < MOST {
-        return Filled::TooSmall;
+        return None;
     }
-    let n = read_of(input.len());
+    let n = FILE.min(input.len());
     let mut values = [0u64; VALUES];
     let mut book = [0u64; BOOK];
     let mut log = [0u64; LOG];
     let mut schedules = [0u64; SCHEDULES];
     let mut series = [0u64; SERIES];
     let mut answers = [0u64; ANSWERS];
-    Filled::Length(put_output(
+    Some(put_output(
         &input[..n],
         out,
         &mut values,

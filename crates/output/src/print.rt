@@ -1,136 +1,99 @@
-// The parts of the output, each put into a buffer from a place on. Each function answers the place behind.
+// The parts of the output, each put behind what is filled of a buffer.
 ghost use Rattle.std.specs.Prelude.{ℕ, ◌+◌, ◌*◌, ◌≤◌, length, take};
 ghost use Rattle.quantity.specs.Limits.{groups, runs};
 ghost use Rattle.quantity.specs.Word.{signed};
-ghost use Rattle.text.specs.Text.{Put, each_to};
-ghost use Rattle.output.specs.Figures.{IsPlace, Summed, read_of};
+ghost use Rattle.text.specs.Puts.{Puts};
+ghost use Rattle.text.specs.Text.{each_to};
+ghost use Rattle.output.specs.Figures.{IsPlace, read_of};
 ghost use Rattle.output.specs.Fill.{most_calls, answer_room, line_room, group_room, quarter_room, figures_room, end_room};
 ghost use Rattle.output.specs.Parts.{Short, ended_text};
-ghost use Rattle.output.specs.Output.{program_quarters, answers_text, group_text, quarter_text, month_text};
+ghost use Rattle.output.specs.Output.{answers_text, group_text, quarter_text, month_text};
 
-use crate::figures::{GROUPS, figure, total};
+use crate::figures::{GROUPS, Month};
 use crate::selections::put_selections;
-use message::cause::number_of;
 use quantity::WattHours;
 use quantity::limits::VERSIONS;
 use replay::Ending;
 use state::VersionRecord;
-use text::line::{answer_line, group_line, refusal_line, total_line};
+use text::Text;
 
-// The number of each call, from 1, and its answer, of the first n.
-pub fn put_answers(out: &mut [u8], at: usize, answers: &[u64], n: usize) -> usize
-    requires { (n ≤ length answers.now) × (n ≤ most_calls) × Short answers.now n × (at + answer_room * n + line_room ≤ length out.old) }
-    ensures { Put (answer_room * n) at (answers_text (take n answers.now)) out.old out.new result }
+// The number of each call, from 1, and its answer.
+pub fn put_answers(text: &mut Text, answers: &[u64])
+    requires { (length answers.now ≤ most_calls) × Short answers.now (length answers.now) × (text.old.filled + answer_room * length answers.now + line_room ≤ length text.old.buffer.now) }
+    ensures { Puts (answer_room * length answers.now) (answers_text answers.now) text.old text.new }
 {
-    let mut next = at;
-    let mut i = 0;
-    while i < n {
-        let answer = answers[i];
-        i += 1;
-        next = answer_line(out, next, i as u64, answer);
+    for (i, answer) in answers.iter().enumerate() {
+        text.answer_line(i as u64 + 1, *answer);
     }
-    next
 }
 
 // A group's figure, where it is not 0.
-fn put_group(
-    out: &mut [u8],
-    at: usize,
-    run: usize,
-    quarter: usize,
-    group: usize,
-    f: WattHours,
-) -> usize
-    requires { at + group_room ≤ length out.old }
-    ensures { Put group_room at (group_text run quarter group (signed f.0)) out.old out.new result }
+fn put_group(text: &mut Text, run: usize, quarter: usize, group: usize, f: WattHours)
+    requires { text.old.filled + group_room ≤ length text.old.buffer.now }
+    ensures { Puts group_room (group_text run quarter group (signed f.0)) text.old text.new }
 {
-    if f.0 == 0 {
-        return at;
+    if f.0 != 0 {
+        text.group_line(run as u64, quarter as u64, group as u64, f);
     }
-    group_line(out, at, run as u64, quarter as u64, group as u64, f)
 }
 
 // The groups of a run and quarter hour, rising.
-fn put_groups(
-    out: &mut [u8],
-    at: usize,
-    book: &[u64],
-    quarters: usize,
-    run: usize,
-    quarter: usize,
-) -> usize
-    requires { IsPlace quarters run quarter × (at + group_room * groups ≤ length out.old) }
-    ensures { Put (group_room * groups) at (each_to groups (λ (g : ℕ). group_text run quarter g (read_of book.now quarters run quarter g))) out.old out.new result }
+fn put_groups(text: &mut Text, month: &Month, run: usize, quarter: usize)
+    requires { IsPlace month.now.quarters run quarter × (text.old.filled + group_room * groups ≤ length text.old.buffer.now) }
+    ensures { Puts (group_room * groups) (each_to groups (λ (g : ℕ). group_text run quarter g (read_of month.now.book.now month.now.quarters run quarter g))) text.old text.new }
 {
-    let mut next = at;
-    let mut group: usize = 0;
-    while group < GROUPS {
-        group += 1;
-        let f = figure(book, quarters, run, group, quarter);
-        next = put_group(out, next, run, quarter, group, f);
+    for group in 1..=GROUPS {
+        let f = month.figure(run, group, quarter);
+        put_group(text, run, quarter, group, f);
     }
-    next
 }
 
 // A quarter hour of a run: its groups, then their sum.
-fn put_quarter(
-    out: &mut [u8],
-    at: usize,
-    book: &[u64],
-    quarters: usize,
-    run: usize,
-    quarter: usize,
-) -> usize
-    requires { IsPlace quarters run quarter × Summed book.now quarters × (at + quarter_room ≤ length out.old) }
-    ensures { Put quarter_room at (quarter_text run quarter (read_of book.now quarters run quarter)) out.old out.new result }
+fn put_quarter(text: &mut Text, month: &Month, run: usize, quarter: usize)
+    requires { IsPlace month.now.quarters run quarter × (text.old.filled + quarter_room ≤ length text.old.buffer.now) }
+    ensures { Puts quarter_room (quarter_text run quarter (read_of month.now.book.now month.now.quarters run quarter)) text.old text.new }
 {
-    let next = put_groups(out, at, book, quarters, run, quarter);
-    let sum = total(book, quarters, run, quarter);
-    total_line(out, next, run as u64, quarter as u64, sum)
+    put_groups(text, month, run, quarter);
+    let sum = month.total(run, quarter);
+    text.total_line(run as u64, quarter as u64, sum);
 }
 
 // The quarter hours of a run, one after the other.
-fn put_run(out: &mut [u8], at: usize, book: &[u64], quarters: usize, run: usize) -> usize
-    requires { ((1 ≤ run) × (run ≤ runs)) × (quarters ≤ program_quarters) × Summed book.now quarters × (at + quarter_room * quarters ≤ length out.old) }
-    ensures { Put (quarter_room * quarters) at (each_to quarters (λ (q : ℕ). quarter_text run q (read_of book.now quarters run q))) out.old out.new result }
+fn put_run(text: &mut Text, month: &Month, run: usize)
+    requires { ((1 ≤ run) × (run ≤ runs)) × (text.old.filled + quarter_room * month.now.quarters ≤ length text.old.buffer.now) }
+    ensures { Puts (quarter_room * month.now.quarters) (each_to month.now.quarters (λ (q : ℕ). quarter_text run q (read_of month.now.book.now month.now.quarters run q))) text.old text.new }
 {
-    let mut next = at;
-    let mut quarter: usize = 0;
-    while quarter < quarters {
-        quarter += 1;
-        next = put_quarter(out, next, book, quarters, run, quarter);
+    for quarter in 1..=month.quarters {
+        put_quarter(text, month, run, quarter);
     }
-    next
 }
 
 // The figures of both runs.
-fn put_month(out: &mut [u8], at: usize, book: &[u64], quarters: usize) -> usize
-    requires { (quarters ≤ program_quarters) × Summed book.now quarters × (at + figures_room ≤ length out.old) }
-    ensures { Put figures_room at (month_text quarters (read_of book.now quarters)) out.old out.new result }
+fn put_month(text: &mut Text, month: &Month)
+    requires { text.old.filled + figures_room ≤ length text.old.buffer.now }
+    ensures { Puts figures_room (month_text month.now.quarters (read_of month.now.book.now month.now.quarters)) text.old text.new }
 {
-    let next = put_run(out, at, book, quarters, 1);
-    put_run(out, next, book, quarters, 2)
+    put_run(text, month, 1);
+    put_run(text, month, 2);
 }
 
 // What stands behind the answers: the file's refusal, or the figures and the selections.
 pub fn put_ending(
-    out: &mut [u8],
-    at: usize,
+    text: &mut Text,
     ending: Ending,
-    quarters: usize,
-    book: &[u64],
+    month: &Month,
     versions: [VersionRecord; VERSIONS as usize],
     count: u64,
-) -> usize
-    requires { (quarters ≤ program_quarters) × Summed book.now quarters × (at + end_room ≤ length out.old) }
-    ensures { Put end_room at (ended_text ending quarters (read_of book.now quarters) (take count versions)) out.old out.new result }
+)
+    requires { text.old.filled + end_room ≤ length text.old.buffer.now }
+    ensures { Puts end_room (ended_text ending month.now.quarters (read_of month.now.book.now month.now.quarters) (take count versions)) text.old text.new }
 {
     match ending {
         Ending::End => {
-            let next = put_month(out, at, book, quarters);
-            put_selections(out, next, versions, count)
+            put_month(text, month);
+            put_selections(text, versions, count);
         }
-        Ending::Refused { cause, offset } => refusal_line(out, at, number_of(cause), offset as u64),
-        Ending::Full => at,
+        Ending::Refused { cause, offset } => text.refusal_line(u64::from(cause), offset as u64),
+        Ending::Full => {}
     }
 }

@@ -6,7 +6,7 @@ use lib.IntN.{sub_ℕ}
 use mir.Val.{sel}
 use mir.ValLaws.{to_z-of_z, of_z-to_z, to_z-Fits}
 use Rattle.quantity.specs.Limits.{most_energy, energy_ok}
-use Rattle.quantity.specs.Word.{word, signed, plus, minus}
+use Rattle.quantity.specs.Word.{word, signed, negative, plus, minus}
 use Rattle.quantity.proofs.Integers.{by-order}
 use Rattle.quantity.proofs.Tests.{same-test}
 
@@ -70,3 +70,12 @@ energy-word w h = go (ltb w (2 ^ 63)) refl
         rw n (same-test (leb (2 ^ 64 - most_energy) w) (leb (suc (2 ^ 64 - suc w)) most_energy)
         (λ j. le-leb (suc (2 ^ 64 - suc w)) most_energy (omega (arith, leb-true (2 ^ 64 - most_energy) w j)))
         (λ j. le-leb (2 ^ 64 - most_energy) w (omega (arith, leb-true (suc (2 ^ 64 - suc w)) most_energy j))))
+
+-- a word is read as negative from 2 ^ 63 on
+pub negative-word : (w : ℕ) → leb (2 ^ 63) w ≡ negative (signed w)
+unfolding negative
+negative-word w = go (ltb w (2 ^ 63)) refl
+  where
+    go : (t : Bool) → ltb w (2 ^ 63) ≡ t → leb (2 ^ 63) w ≡ negative (sel t (pos w) (negsuc (2 ^ 64 - suc w)))
+    go true e = lt-leb (2 ^ 63) w (ltb-true w (2 ^ 63) e)
+    go false e = le-leb (2 ^ 63) w (ltb-false w (2 ^ 63) e)

@@ -1,5 +1,5 @@
 -- An energy or a figure in a store is a 64-bit word in two's complement.
-use Rattle.std.specs.Prelude.{ℕ, suc, ◌+◌, ◌-◌, ◌%◌, ◌^◌, ℤ, pos, negsuc}
+use Rattle.std.specs.Prelude.{Bool, true, false, ℕ, suc, ◌+◌, ◌-◌, ◌%◌, ◌^◌, ℤ, pos, negsuc}
 use Rattle.std.specs.Int.{w64}
 use Rattle.std.proofs.Common.{to_z}
 
@@ -11,6 +11,11 @@ word (negsuc n) = 2 ^ 64 - suc (n % 2 ^ 64)
 -- the integer that a word is read as
 abbrev pub signed : ℕ → ℤ
 signed w = to_z w64 w
+
+-- below 0
+unfoldable pub negative : ℤ → Bool
+negative (pos n) = false
+negative (negsuc n) = true
 
 -- "sums wrap at 64 bits": the sum of two words
 abbrev pub plus : ℕ → ℕ → ℕ

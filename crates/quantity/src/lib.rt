@@ -5,17 +5,17 @@ pub mod limits;
 pub mod word;
 
 // A working day, counted from the end of the month.
-#[derive(Clone, Copy)]
+#[derive(Clone, Copy, PartialEq, Eq, PartialOrd, Ord)]
 pub struct Day(pub u64);
 
 // The number of a version of a point's series.
-#[derive(Clone, Copy)]
+#[derive(Clone, Copy, PartialEq, Eq, PartialOrd, Ord)]
 pub struct Version(pub u64);
 
 // The number of a point.
-#[derive(Clone, Copy)]
+#[derive(Clone, Copy, PartialEq, Eq, PartialOrd, Ord)]
 pub struct PointNo(pub u64);
 
 // An energy or a figure in watt-hours, as a 64-bit word in two's complement.
-#[derive(Clone, Copy)]
+#[derive(Clone, Copy, PartialEq, Eq)]
 pub struct WattHours(pub u64);

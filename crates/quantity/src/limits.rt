@@ -40,38 +40,37 @@ pub const MINUS_ENERGY: u64 = 0xffff_ffff_ffff_ffff - 999_999_999_999;
 pub fn quarters_ok(q: u64) -> bool
     ensures { result ≡ quarters_ok q }
 {
-    (1 <= q) & (q <= QUARTERS)
+    (1..=QUARTERS).contains(&q)
 }
 
 pub fn day_ok(day: Day) -> bool
     ensures { result ≡ day_ok day.0 }
 {
-    day.0 <= LAST_DAY
+    day <= Day(LAST_DAY)
 }
 
 pub fn deadlines_ok(first: Day, clearing: Day, correction: Day) -> bool
     ensures { result ≡ deadlines_ok first.0 clearing.0 correction.0 }
 {
-    (1 <= first.0)
-        & ((first.0 < clearing.0) & ((clearing.0 < correction.0) & (correction.0 <= LAST_DEADLINE)))
+    Day(1) <= first && first < clearing && clearing < correction && correction <= Day(LAST_DEADLINE)
 }
 
 pub fn version_ok(version: Version) -> bool
     ensures { result ≡ version_ok version.0 }
 {
-    (1 <= version.0) & (version.0 <= LAST_VERSION)
+    (1..=LAST_VERSION).contains(&version.0)
 }
 
 pub fn point_ok(point: PointNo) -> bool
     ensures { result ≡ point_ok point.0 }
 {
-    (1 <= point.0) & (point.0 <= POINTS)
+    (1..=POINTS).contains(&point.0)
 }
 
 pub fn area_ok(area: u64) -> bool
     ensures { result ≡ area_ok area }
 {
-    (1 <= area) & (area <= AREAS)
+    (1..=AREAS).contains(&area)
 }
 
 // A delta: an area, or 0 for T.
@@ -84,15 +83,16 @@ pub fn delta_ok(area: u64) -> bool
 pub fn group_ok(group: u64) -> bool
     ensures { result ≡ group_ok group }
 {
-    (1 <= group) & (group <= GROUPS)
+    (1..=GROUPS).contains(&group)
 }
 
 pub fn run_ok(run: u64) -> bool
     ensures { result ≡ run_ok run }
 {
-    (1 <= run) & (run <= RUNS)
+    (1..=RUNS).contains(&run)
 }
 
+// Both halves are compared, with no branch between them.
 pub fn energy_ok(energy: WattHours) -> bool
     ensures { result ≡ energy_ok (signed energy.0) }
 {

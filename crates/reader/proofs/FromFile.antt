@@ -10,6 +10,7 @@ use lib.IntN.{ℤ}
 use lib.ListN.{length, drop, replicate}
 use Rattle.quantity.specs.Limits.{most_quarters, deltas}
 use Rattle.quantity.specs.Lists.{all}
+use Rattle.std.specs.Prelude.{Some, Ok}
 use Rattle.message.specs.Number.{encode_all, fits_number}
 use Rattle.message.specs.Energy.{sent, fits_energy}
 use Rattle.message.specs.Read.{got}
@@ -17,19 +18,17 @@ use Rattle.message.specs.Call.{Sent, Carried, submission, most_fields, is_kind, 
 use Rattle.message.specs.Named.{call_of, groups_of}
 use Rattle.message.specs.declared.DeskCall.{DeskCall}
 use Rattle.message.specs.declared.DeskCall.TheVariants.{Open, Activate, Deactivate, Submit, Notice, Assign, Close, Issue}
-use Rattle.message.specs.declared.Named.TheVariants.{Known}
 use Rattle.reader.specs.Reader.{padded, read_at}
-use Rattle.reader.specs.declared.Step.TheVariants.{Call}
 use Rattle.message.proofs.Calls.{parse-print}
 use Rattle.message.proofs.Files.{parse-shorter}
 use Rattle.message.proofs.Fields.{field-names}
 
 -- a call at the file's start, with how many energies, up to the file's end; and what stands beside it
 abbrev pub Reads : (room : ℕ) (numbers : List ℕ) → DeskCall → (energies : ℕ) (groups : List ℕ) → Type 0
-Reads room numbers d n groups = read_at (encode_all numbers) 0 room ≡ record { step = Call d n (length (encode_all numbers)); groups = groups }
+Reads room numbers d n groups = read_at (encode_all numbers) 0 room ≡ Ok (Some (record { call = d; groups = groups; count = n; next = length (encode_all numbers) }))
 
-read-one : (room : ℕ) (c : Sent) (d : DeskCall) → Carried c → length c.energies ≤ room → call_of c.kind (padded c.fields) ≡ Known d →
-    read_at (print c) 0 room ≡ record { step = Call d (length c.energies) (length (print c)); groups = groups_of (padded c.fields) }
+read-one : (room : ℕ) (c : Sent) (d : DeskCall) → Carried c → length c.energies ≤ room → call_of c.kind (padded c.fields) ≡ Some d →
+    read_at (print c) 0 room ≡ Ok (Some (record { call = d; groups = groups_of (padded c.fields); count = length c.energies; next = length (print c) }))
 unfolding read_at
 read-one room c d h roomy named =
     let parsed : parse room (print c) ≡ got c [] = rw append-nil at (parse-print room c [] h roomy) in
@@ -39,7 +38,7 @@ read-one room c d h roomy named =
 
 -- a call without energies
 read-plain : (room k : ℕ) (fields : List ℕ) (d : DeskCall) → is_kind k ≡ true → eqb k submission ≡ false → length fields ≡ fields_of k → all fits_number fields ≡ true →
-    call_of k (padded fields) ≡ Known d → Reads room (k ∷ fields) d 0 (groups_of (padded fields))
+    call_of k (padded fields) ≡ Some d → Reads room (k ∷ fields) d 0 (groups_of (padded fields))
 unfolding all
 read-plain room k fields d known other whole fits named =
     let c : Sent = record { kind = k; fields = fields; energies = [] } in

@@ -6,6 +6,7 @@ use mathlib.Core.List.{List, [], ◌∷◌, ◌++◌, map, map-append}
 use native.Mathlib.Omega.{arith}
 use lib.IntN.{ℤ}
 use lib.ListN.{length, length-append, length-map}
+use Rattle.std.specs.Prelude.{Option, None}
 use Rattle.quantity.specs.Lists.{fold}
 use Rattle.quantity.specs.Word.{word}
 use Rattle.book.specs.Row.{splice}
@@ -21,8 +22,7 @@ use Rattle.model.specs.Log.{due, logged, used_after}
 use Rattle.model.specs.Plain.{worked_out, after, energies_of}
 use Rattle.model.specs.Step.{granting, version_by}
 use Rattle.model.specs.View.{view_of}
-use Rattle.model.specs.declared.Due.{Due}
-use Rattle.model.specs.declared.Due.TheVariants.{Nothing}
+use Rattle.model.specs.declared.LogRow.{LogRow}
 use Rattle.model.proofs.Invariant.{Holds, holds-open}
 use Rattle.model.proofs.Lending.{left-own, left-most, left-book}
 use Rattle.model.proofs.Submit.{full}
@@ -48,7 +48,7 @@ rows-more es base values n q x e R =
 -- what a call leaves of the opening, the log, the book's length, the schedules, the stores in their opening lengths, and the values
 pub record After (d : Desk) (s : Stores) (h : List Told) (c : Call) : Type 0 where
   pub opening : (granting d s c).desk.frame.opening ≡ d.frame.opening
-  pub row : Due
+  pub row : Option LogRow
   pub log : (granting d s c).stores.log ≡ logged d.frame.used row s.log
   pub used : (granting d s c).desk.frame.used ≡ used_after row d.frame.used
   pub book : length (granting d s c).stores.book ≡ length s.book
@@ -69,7 +69,7 @@ module _ (d : Desk) (s : Stores) (h : List Told) (H : Holds d s h) where
   still c o e u n g =
       record {
         opening = o;
-        row = Nothing;
+        row = None;
         log = ap (λ (a : Stores). a.log) e;
         used = u;
         book = ap (λ (a : Stores). length a.book) e;
@@ -113,7 +113,7 @@ module _ (d : Desk) (s : Stores) (h : List Told) (H : Holds d s h) where
   left-by (assigns a g e) z P =
       record {
         opening = refl;
-        row = Nothing;
+        row = None;
         log = refl;
         used = refl;
         book = length-moved _ d.frame.opening.quarters a g d.frame.groups s.book;

@@ -6,10 +6,10 @@ use native.Mathlib.Omega.{arith}
 use lib.IntN.{ℤ}
 use lib.ListN.{length, take, drop, length-append, length-drop, take-append-drop}
 use lib.Seq.{take_at, drop_at, drop-drop, length-take-le}
+use Rattle.std.specs.Prelude.{Option, Some, None}
 use Rattle.book.specs.Row.{splice}
 use Rattle.model.specs.Log.{log_words, logged, used_after}
-use Rattle.model.specs.declared.Due.{Due}
-use Rattle.model.specs.declared.Due.TheVariants.{Nothing, Row}
+use Rattle.model.specs.declared.LogRow.{LogRow}
 use Rattle.replay.specs.Replay.{joined, over}
 
 -- a part more behind the first places
@@ -35,10 +35,10 @@ joined-more [] l = append-nil l
 joined-more (x ∷ ls) l = ap (λ (m : List ℤ). x ++ m) (joined-more ls l) ∙ sym (append_assoc x (joined ls) l)
 
 -- the numbers behind the log rows used are the base's, also with the row that was due
-pub behind-logged : (n : ℕ) (log base : List ℕ) (o : Due) → 4 * used_after o n ≤ length log → drop (4 * n) log ≡ drop (4 * n) base → drop (4 * used_after o n) (logged n o log) ≡ drop (4 * used_after o n) base
+pub behind-logged : (n : ℕ) (log base : List ℕ) (o : Option LogRow) → 4 * used_after o n ≤ length log → drop (4 * n) log ≡ drop (4 * n) base → drop (4 * used_after o n) (logged n o log) ≡ drop (4 * used_after o n) base
 unfolding splice
-behind-logged n log base Nothing h e = e
-behind-logged n log base (Row r) h e =
+behind-logged n log base None h e = e
+behind-logged n log base (Some r) h e =
     let front : length (take (4 * n) log ++ log_words r) ≡ 4 * (n + 1) = length-append (take (4 * n) log) (log_words r) ∙ omega (arith, length-take-le (4 * n) log (omega arith)) in
     let next : 4 * n + 4 ≡ 4 * (n + 1) = omega arith in
     ap (drop (4 * (n + 1))) (sym (append_assoc (take (4 * n) log) (log_words r) (drop 4 (drop (4 * n) log))))

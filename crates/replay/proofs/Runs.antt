@@ -26,16 +26,17 @@ use Rattle.model.specs.declared.Answer.{Answer}
 use Rattle.checks.specs.Stepped.{stores_of}
 use Rattle.message.specs.Series.{filled}
 use Rattle.reader.specs.Reader.{padded, read_at, series_after}
-use Rattle.reader.specs.declared.Step.{Step}
-use Rattle.reader.specs.declared.Step.TheVariants.{Call as CallRead, End as FileEnd, Refused as NotRead}
+use Rattle.std.specs.Prelude.{Some, None, Ok, Err}
+use Rattle.message.specs.declared.FileRefusal.{FileRefusal}
+use Rattle.reader.specs.declared.CallRead.{CallRead}
 use Rattle.reader.proofs.Theorems.{Stepped, reader-end, reader-call, reader-refused, end-keeps, reader-keeps}
 use Rattle.dispatch.specs.Asked.{asked}
 use Rattle.replay.specs.Given.{given_in}
 use Rattle.replay.specs.Play.{Playing, played, play}
 use Rattle.replay.specs.Replay.{calls_for, ending_of}
-use Rattle.replay.specs.Run.{running_of, Handed, playing_of, ended_by, Ran}
+use Rattle.replay.specs.Run.{running_of, Handed, playing_of, Ran}
 use Rattle.replay.specs.declared.Ending.{Ending as EndingOf}
-use Rattle.replay.specs.declared.Ending.TheVariants.{End, Full}
+use Rattle.replay.specs.declared.Ending.TheVariants.{End, Refused, Full}
 use Rattle.replay.proofs.Reached.{Reached, reached-next}
 use Rattle.replay.proofs.Sendings.{same-call}
 
@@ -124,31 +125,31 @@ module _ {s : List ℕ} {start p : Playing} {at : ℕ} (w : Going s start p at) 
       }
 
   -- a call that was read
-  stepped : {n m : ℕ} {d : DeskCall} → (read_at s at (length p.series)).step ≡ CallRead d n m → Stepped s at (length start.series) d n m (read_at s at (length p.series)).groups
+  stepped : {read : CallRead} → read_at s at (length p.series) ≡ Ok (Some read) → Stepped s at (length start.series) read.call read.count read.next read.groups
   stepped e = same-room w.sized.series (reader-call s at (length p.series) e)
 
   -- its energies stand in the first places of the buffer
-  filling : {n m : ℕ} {d : DeskCall} (e : (read_at s at (length p.series)).step ≡ CallRead d n m) → series_after s at p.series ≡ filled (stepped e).call.energies p.series
+  filling : {read : CallRead} (e : read_at s at (length p.series) ≡ Ok (Some read)) → series_after s at p.series ≡ filled (stepped e).call.energies p.series
   filling e = rw (w.sized.series, (stepped e).parsed)
 
   -- so many that they have room there
-  pub energies-inside : {n m : ℕ} {d : DeskCall} {series : List ℕ} → (read_at s at (length p.series)).step ≡ CallRead d n m → series ≡ series_after s at p.series → n ≤ length series
+  pub energies-inside : {read : CallRead} {series : List ℕ} → read_at s at (length p.series) ≡ Ok (Some read) → series ≡ series_after s at p.series → read.count ≤ length series
   energies-inside e f =
       let t = stepped e in
       rw (f, filling e, length-append (map word t.call.energies) (drop (length t.call.energies) p.series), length-map t.call.energies word)
       (omega (arith, t.count))
 
   -- it is answered
-  pub again : {n m x : ℕ} {call : DeskCall} {groups series : List ℕ} {answer : Answer} {desk : Desk} {values book log schedules : List ℕ} → p.answered < length start.answers →
-      (read_at s at (length p.series)).step ≡ CallRead call n m → groups ≡ (read_at s at (length p.series)).groups → series ≡ series_after s at p.series →
-      Handed p.running (asked call groups (map signed (take (n - 0) series))) answer (running_of desk (stores_of values book log schedules)) → x ≡ answer_number answer →
+  pub again : {x : ℕ} {read : CallRead} {series : List ℕ} {answer : Answer} {desk : Desk} {values book log schedules : List ℕ} → p.answered < length start.answers →
+      read_at s at (length p.series) ≡ Ok (Some read) → series ≡ series_after s at p.series →
+      Handed p.running (asked read.call read.groups (map signed (take (read.count - 0) series))) answer (running_of desk (stores_of values book log schedules)) → x ≡ answer_number answer →
       Sized p (playing_of desk (stores_of values book log schedules) series (set p.answers p.answered x) (p.answered + 1)) →
-      Going s start (playing_of desk (stores_of values book log schedules) series (set p.answers p.answered x) (p.answered + 1)) m
+      Going s start (playing_of desk (stores_of values book log schedules) series (set p.answers p.answered x) (p.answered + 1)) read.next
   unfolding played
-  again {call = call} h e f g v x z =
+  again {read = read} h e g v x z =
       let t = stepped e in
       let c = t.call in
-      let u = rw (same-call c (parse-read (length start.series) (drop at s) t.parsed).carried p.series call t.count (f ∙ t.beside) (g ∙ filling e)) at v in
+      let u = rw (same-call c (parse-read (length start.series) (drop at s) t.parsed).carried p.series read.call t.count t.beside (g ∙ filling e)) at v in
       goes t h (rw (add-one, u.running, g ∙ filling e, x, u.answered)) z
 
   -- nothing remains to be done
@@ -176,14 +177,17 @@ module _ {s : List ℕ} {start p : Playing} {at : ℕ} (w : Going s start p at) 
           let some : 0 < length (drop at s) = rw length-drop (omega (arith, w.inside, n)) in
           rw (ne_eqb at (length s) n) (done (rw none) (rw none (sym (bytes-left (length s) (length start.series) (drop at s) some))))
 
-  -- no call is read
-  pub unread : (t : Step) {series : List ℕ} → p.answered < length start.answers → ((d : DeskCall) (n m : ℕ) → t ≡ CallRead d n m → ⊥) → (read_at s at (length p.series)).step ≡ t →
-      series ≡ series_after s at p.series → Ran s start (record { running = p.running; series = series; answers = p.answers; answered = p.answered }) (ended_by t)
+  -- the file ends
+  pub ended : {series : List ℕ} → p.answered < length start.answers → read_at s at (length p.series) ≡ Ok None → series ≡ series_after s at p.series →
+      Ran s start (record { running = p.running; series = series; answers = p.answers; answered = p.answered }) End
+  ended h e f = rw (f ∙ end-keeps s at p.series e) (at-end (reader-end s at (length p.series) e))
+
+  -- a call is refused
+  pub left-off : {r : FileRefusal} {series : List ℕ} → p.answered < length start.answers → read_at s at (length p.series) ≡ Err r → series ≡ series_after s at p.series →
+      Ran s start (record { running = p.running; series = series; answers = p.answers; answered = p.answered }) (Refused r.cause r.offset)
   unfolding given_in
-  unread (CallRead d n m) h o e f = absurd (o d n m refl)
-  unread FileEnd h o e f = rw (f ∙ end-keeps s at p.series e) (at-end (reader-end s at (length p.series) e))
-  unread (NotRead x i) h o e f =
+  left-off {r} h e f =
       let g = reader-refused s at (length p.series) w.inside e in
-      let c : calls_in (length start.series) (drop at s) ≡ stop (drop at s) x = rw w.sized.series at g.0 in
+      let c : calls_in (length start.series) (drop at s) ≡ stop (drop at s) r.cause = rw w.sized.series at g.0 in
       rw (f ∙ reader-keeps s at p.series e)
       (done (rw (c, take-nil)) (rw (c, g.1, offset-is s at w.inside, le-leb 1 (length start.answers - p.answered) (omega arith))))

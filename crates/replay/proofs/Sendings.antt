@@ -21,8 +21,7 @@ use Rattle.message.specs.Series.{filled}
 use Rattle.reader.specs.Reader.{padded}
 use Rattle.message.specs.Named.{call_of, groups_of}
 use Rattle.message.specs.declared.DeskCall.{DeskCall}
-use Rattle.message.specs.declared.Named.{Named}
-use Rattle.message.specs.declared.Named.TheVariants.{Known, Unknown}
+use Rattle.std.specs.Prelude.{Option, Some, None}
 use Rattle.dispatch.specs.Asked.{asked}
 use Rattle.replay.specs.Given.{given, before, given_in}
 
@@ -52,6 +51,6 @@ unfolding given_in
 given-few [] = omega arith
 given-few (c ∷ l) = go (call_of c.kind (padded c.fields)) (given-few l)
   where
-    go : (n : Named) → length (given_in l) ≤ length l → length (before n (groups_of (padded c.fields)) c.energies (given_in l)) ≤ length (c ∷ l)
-    go (Known d) h = omega arith
-    go Unknown h = omega arith
+    go : (n : Option DeskCall) → length (given_in l) ≤ length l → length (before n (groups_of (padded c.fields)) c.energies (given_in l)) ≤ length (c ∷ l)
+    go (Some d) h = omega arith
+    go None h = omega arith

@@ -4,6 +4,7 @@ use mathlib.Core.Path.{◌≡◌, refl, sym, ◌∙◌, subst}
 use mathlib.Core.Bool.{Bool, true, false}
 use mathlib.Core.List.{List, [], ◌∷◌}
 use lib.IntN.{ℤ}
+use Rattle.std.specs.Prelude.{Ok, Err}
 use Rattle.quantity.specs.Limits.{book_rows, schedule_rows}
 use Rattle.quantity.specs.Lists.{fold}
 use Rattle.message.specs.declared.DeskCall.{DeskCall}
@@ -12,13 +13,11 @@ use Rattle.state.specs.Desk.{fresh_desk}
 use Rattle.state.specs.Valid.{opening_ok, frame_ok, valid_desk}
 use Rattle.model.specs.Agreement.{Running, fresh}
 use Rattle.model.specs.Call.{Call, opens, Stores, Lengths, lengths_of, Told, told, telling}
-use Rattle.model.specs.Causes.{terms, takes, or_if, first_of, opening_by, opens_ok, refusal}
+use Rattle.model.specs.Causes.{terms, takes, or_if, first_of, opening_by, opens_ok, refusal, Ruling}
 use Rattle.model.specs.Plain.{worked_out, view_in, joined, plain_next}
 use Rattle.model.specs.Step.{granting, refusal_by, decided, step}
 use Rattle.model.specs.declared.Cause.{Cause}
 use Rattle.model.specs.declared.Cause.TheVariants.{NotOpen, OpenAgain, BadOpening}
-use Rattle.model.specs.declared.Ruling.{Ruling}
-use Rattle.model.specs.declared.Ruling.TheVariants.{Fine, Refuse}
 use Rattle.model.proofs.Invariant.{same-refusal, plain-open}
 use Rattle.model.proofs.Main.{fine}
 use Rattle.dispatch.specs.Asked.{asked}
@@ -32,8 +31,8 @@ use Rattle.replay.proofs.Parts.{both-parts}
 -- an opening, or a later call: that one is lent the desk's own numbers, takes no schedules, and before the opening both desks refuse it
 data Kind : Call → Type 0 where
   opening : {q f c k : ℕ} {gs : List ℕ} → Kind (opens q f c k gs)
-  later : {c : Call} → ((n : ℕ) → (terms c).quarters n ≡ n) → (takes c).schedules ≡ false → ((n : Lengths) → refusal_by fresh_desk (telling n c) ≡ Refuse NotOpen)
-      → ((n : Lengths) → refusal (view_in []) (telling n c) ≡ Refuse NotOpen) → Kind c
+  later : {c : Call} → ((n : ℕ) → (terms c).quarters n ≡ n) → (takes c).schedules ≡ false → ((n : Lengths) → refusal_by fresh_desk (telling n c) ≡ Err NotOpen)
+      → ((n : Lengths) → refusal (view_in []) (telling n c) ≡ Err NotOpen) → Kind c
 
 kind : (d : DeskCall) (groups : List ℕ) (energies : List ℤ) → Kind (asked d groups energies)
 unfolding asked refusal_by refusal first_of fold or_if view_in worked_out valid_desk frame_ok opening_ok
@@ -53,12 +52,12 @@ module _ (s : Stores) (r : Running) (h : List Told) (c : Call) where
   abbrev Kept : Type 0
   Kept = Going s (handed r c) (plain_next h (told (lent_to r c)))
 
-  refused-kept : (x : Cause) → refusal_by r.desk (told (lent_to r c)) ≡ Refuse x → refusal (view_in h) (told (lent_to r c)) ≡ Refuse x → Going s r h → Kept
+  refused-kept : (x : Cause) → refusal_by r.desk (told (lent_to r c)) ≡ Err x → refusal (view_in h) (told (lent_to r c)) ≡ Err x → Going s r h → Kept
   unfolding handed lent_to step decided plain_next joined
   refused-kept x e f G = rw (e, f, both-parts book_rows (quarters_for r c) r.stores.book, both-parts schedule_rows (quarters_for r c) r.stores.schedules) G
 
   -- from what the call left of the numbers lent, by their Q
-  accepted-kept : refusal_by r.desk (told (lent_to r c)) ≡ Fine → refusal (view_in h) (told (lent_to r c)) ≡ Fine → (q : ℕ) → quarters_for r c ≡ q
+  accepted-kept : refusal_by r.desk (told (lent_to r c)) ≡ Ok tt → refusal (view_in h) (told (lent_to r c)) ≡ Ok tt → (q : ℕ) → quarters_for r c ≡ q
       → Opened s (back (granting r.desk (lent_by q r.stores) c) q r.stores) (telling (lengths_of (lent_by q r.stores)) c ∷ h) → Kept
   unfolding handed lent_to step decided plain_next joined
   accepted-kept e f q z O =
@@ -78,8 +77,8 @@ opened-kept s r h c G q untaken = go (refusal (view_in h) (told (lent_to r c))) 
     own = q r.desk.frame.opening.quarters
 
     go : (v : Ruling) → refusal (view_in h) (told (lent_to r c)) ≡ v → Kept s r h c
-    go (Refuse x) e = refused-kept s r h c x (same ∙ e) e (opened G)
-    go Fine e =
+    go (Err x) e = refused-kept s r h c x (same ∙ e) e (opened G)
+    go (Ok tt) e =
         accepted-kept s r h c (same ∙ e) e r.desk.frame.opening.quarters own
         (granted s r h G c untaken (fine r.desk (own_of r) h (record { call = c; stores = own_of r }) G.holds (rw own at e)))
 
@@ -88,7 +87,7 @@ again-kept : (s : Stores) (r : Running) (h : List Told) (q f c k : ℕ) (gs : Li
 unfolding lent_to refusal first_of fold or_if view_in
 again-kept s r h q f c k gs G =
     let t = told (lent_to r (opens q f c k gs)) in
-    let plain : refusal (view_in h) t ≡ Refuse OpenAgain = rw (plain-open r.desk (own_of r) h G.holds) in
+    let plain : refusal (view_in h) t ≡ Err OpenAgain = rw (plain-open r.desk (own_of r) h G.holds) in
     refused-kept s r h (opens q f c k gs) OpenAgain (same-refusal r.desk (own_of r) h G.holds t ∙ plain) plain (opened G)
 
 -- ---- before it

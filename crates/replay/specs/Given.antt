@@ -1,10 +1,8 @@
 -- A call of the file, as the desk gets it.
-use Rattle.std.specs.Prelude.{ℕ, List, [], ◌∷◌, ℤ}
+use Rattle.std.specs.Prelude.{ℕ, List, [], ◌∷◌, ℤ, Option, Some, None}
 use Rattle.message.specs.Call.{Sent}
 use Rattle.message.specs.Named.{call_of, groups_of}
 use Rattle.message.specs.declared.DeskCall.{DeskCall}
-use Rattle.message.specs.declared.Named.{Named}
-use Rattle.message.specs.declared.Named.TheVariants.{Known, Unknown}
 use Rattle.reader.specs.Reader.{padded}
 use Rattle.model.specs.Call.{Call}
 use Rattle.dispatch.specs.Asked.{asked}
@@ -20,9 +18,9 @@ abbrev pub given : Given → Call
 given g = asked g.call g.groups g.energies
 
 -- a call that has a name, before others; what has none is no call
-abbrev pub before : Named → (groups : List ℕ) (energies : List ℤ) → List Given → List Given
-before (Known d) gs es l = record { call = d; groups = gs; energies = es } ∷ l
-before Unknown gs es l = l
+abbrev pub before : Option DeskCall → (groups : List ℕ) (energies : List ℤ) → List Given → List Given
+before (Some d) gs es l = record { call = d; groups = gs; energies = es } ∷ l
+before None gs es l = l
 
 -- "A call is its kind, then fields in the order above"
 unfoldable pub given_in : List Sent → List Given

@@ -5,12 +5,9 @@ use Rattle.state.specs.declared.Desk.{Desk}
 use Rattle.model.specs.Agreement.{Running}
 use Rattle.model.specs.Call.{Call, Stores}
 use Rattle.model.specs.declared.Answer.{Answer}
-use Rattle.reader.specs.declared.Step.{Step}
-use Rattle.reader.specs.declared.Step.TheVariants.{Call as CallRead, End as FileEnd, Refused as NotRead}
 use Rattle.replay.specs.Play.{outcome_of, handed, Playing, play}
 use Rattle.replay.specs.Replay.{calls_for, ending_of}
 use Rattle.replay.specs.declared.Ending.{Ending}
-use Rattle.replay.specs.declared.Ending.TheVariants.{End, Refused, Full}
 
 -- a desk and its stores
 abbrev pub running_of : Desk → Stores → Running
@@ -24,12 +21,6 @@ pub record Handed (r : Running) (c : Call) (answer : Answer) (after : Running) :
 -- a replay under way, by its parts
 abbrev pub playing_of : Desk → Stores → (series answers : List ℕ) (answered : ℕ) → Playing
 playing_of d s series answers n = record { running = running_of d s; series = series; answers = answers; answered = n }
-
--- how a file ends where no call is read
-abbrev pub ended_by : Step → Ending
-ended_by (CallRead k n m) = Full
-ended_by FileEnd = End
-ended_by (NotRead x at) = Refused x at
 
 -- a file was run: what is left is what its calls leave, one after the other, and the ending is the file's
 pub record Ran (file : List ℕ) (start after : Playing) (ending : Ending) : Type 0 where

@@ -49,13 +49,11 @@ pub fn lend_call(
     ensures { Fits d result.effect × Handed (running_of d (stores_of values.old book.old log.old schedules.old)) (asked call groups (map signed series.now)) result.answer (running_of (changed_by d result.effect) (stores_of values.new book.new log.new schedules.new)) }
 {
     let l = glance(d, p, asks_of(call));
-    let frame = d.frame;
-    let opening = frame.opening;
-    let q = quarters_of(call, opening.quarters);
+    let q = quarters_of(call, d.frame.opening.quarters);
     let n = lent_of(BOOK_ROWS as usize, book.len(), q);
     let m = lent_of(SCHEDULE_ROWS as usize, schedules.len(), q);
     decide(
-        frame,
+        d.frame,
         l,
         call,
         groups,

@@ -6,35 +6,20 @@ ghost use Rattle.state.specs.Settling.{PointsIn};
 ghost use Rattle.state.specs.Walk.{map_first};
 ghost use Rattle.checks.specs.Stepped.{stores_of};
 ghost use Rattle.replay.specs.Play.{starting};
-ghost use Rattle.replay.specs.Run.{playing_of, ended_by, Ran};
+ghost use Rattle.replay.specs.Run.{playing_of, Ran};
 ghost use Rattle.replay.specs.declared.Ending.TheVariants.{End, Full};
 
 use crate::lending::lend_call;
 use crate::{Ending, Replayed};
-use checks::numbers::number_of;
 use dispatch::asks::place_in;
+use message::FileRefusal;
 use quantity::limits::VERSIONS;
-use reader::{Step, read_call};
+use reader::read_call;
 use state::fresh::fresh_desk;
 use state::settling::settled_versions;
 use state::{Tables, VersionRecord};
 
-// How a file ends where no call is read.
-fn ended_by(step: Step) -> Ending
-    ensures { result ≡ ended_by step }
-{
-    match step {
-        Step::Call {
-            call: _,
-            count: _,
-            next: _,
-        } => Ending::Full,
-        Step::End => Ending::End,
-        Step::Refused { cause, offset } => Ending::Refused { cause, offset },
-    }
-}
-
-// How it ends where the answers are full.
+// How a file ends where the answers are full.
 fn ended_at(at: usize, length: usize) -> Ending
     ensures { result ≡ cond (eqb at length) End Full }
 {
@@ -73,25 +58,39 @@ pub fn run_file(
     let mut at = 0;
     let mut answered = 0;
     while answered < answers.len() {
-        let reading = read_call(file, at, series);
-        let step = reading.step;
-        let groups = reading.groups;
-        let Step::Call { call, count, next } = step else {
-            return Replayed {
-                answered,
-                ending: ended_by(step),
-                desk,
-            };
+        let read = match read_call(file, at, series) {
+            Ok(Some(read)) => read,
+            Ok(None) => {
+                return Replayed {
+                    answered,
+                    ending: Ending::End,
+                    desk,
+                };
+            }
+            Err(FileRefusal { cause, offset }) => {
+                return Replayed {
+                    answered,
+                    ending: Ending::Refused { cause, offset },
+                    desk,
+                };
+            }
         };
-        let place = place_in(call);
+        let place = place_in(read.call);
         let p = desk.points[place];
-        let sent = &series[0..count];
-        let out = lend_call(desk, p, call, groups, sent, values, book, log, schedules);
-        let answer = out.answer;
-        answers[answered] = number_of(answer);
-        let effect = out.effect;
-        let tables = effect.tables;
-        let frame = effect.frame;
+        let sent = &series[0..read.count];
+        let out = lend_call(
+            desk,
+            p,
+            read.call,
+            read.groups,
+            sent,
+            values,
+            book,
+            log,
+            schedules,
+        );
+        answers[answered] = u64::from(out.answer);
+        let tables = out.effect.tables;
         match tables {
             Tables::Same => {}
             Tables::Fresh => {}
@@ -105,9 +104,9 @@ pub fn run_file(
                 settle_held(&mut desk.versions, desk.frame.count, run);
             }
         }
-        desk.frame = frame;
+        desk.frame = out.effect.frame;
         answered += 1;
-        at = next;
+        at = read.next;
     }
     Replayed {
         answered,

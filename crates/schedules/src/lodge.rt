@@ -11,13 +11,13 @@ ghost use Rattle.model.specs.declared.Answer.TheVariants.{Accepted};
 ghost use Rattle.checks.specs.Stepped.{IsScheduleStep, ScheduleStepped};
 ghost use Rattle.checks.specs.Lent.{with_schedules_length};
 
-use amend::copies::put_series;
+use amend::copies::put_row;
 use checks::decisions::{accept, at_work, outcome, refuse};
 use checks::looks::valid;
-use checks::rules::or_if;
+use checks::rules::refuse_if;
 use checks::series::energies_ok;
 use checks::{Decided, Outcome};
-use model::{Cause, Ruling};
+use model::Cause;
 use quantity::Day;
 use quantity::limits::{day_ok, group_ok};
 use state::changes::put_day;
@@ -31,17 +31,17 @@ fn lodge_ok(group: u64, day: Day, q: u64, series: &[u64]) -> bool
     group_ok(group) & (day_ok(day) & ((n == q) & energies_ok(series)))
 }
 
-pub fn lodge_ruling(d: Desk, size: u64, group: u64, day: Day, series: &[u64]) -> Ruling
+#[tactic(auto, unfolding(model::specs::Step::refusal_by, model::specs::Causes::first_of, model::specs::Causes::or_if, model::specs::Causes::other_lengths, quantity::specs::Lists::fold))]
+pub fn lodge_ruling(d: Desk, size: u64, group: u64, day: Day, series: &[u64]) -> Result<(), Cause>
     ensures { (n : Lengths) → result ≡ refusal_by d (telling (with_schedules_length n size) (lodges group day.0 (map signed series.now))) }
 {
-    let frame = d.frame;
-    let opening = frame.opening;
-    let v0 = at_work(valid(d), opening);
-    let v1 = or_if(v0, size != opening.schedules, Cause::WrongLength);
+    let opening = d.frame.opening;
+    at_work(valid(d), opening)?;
+    refuse_if(size != opening.schedules, Cause::WrongLength)?;
     let fits = lodge_ok(group, day, opening.quarters, series);
-    let v2 = or_if(v1, !fits, Cause::BadField);
-    let v3 = or_if(v2, day.0 < frame.day.0, Cause::PastDay);
-    or_if(v3, opening.clearing.0 < day.0, Cause::TooLate)
+    refuse_if(!fits, Cause::BadField)?;
+    refuse_if(day.0 < d.frame.day.0, Cause::PastDay)?;
+    refuse_if(opening.clearing.0 < day.0, Cause::TooLate)
 }
 
 // The schedules and the desk after a lodging that is not refused: group g has row g - 1.
@@ -51,12 +51,10 @@ fn lodged(d: Desk, group: u64, day: Day, series: &[u64], schedules: &mut [u64]) 
     requires schedules_len { length schedules.old ≡ d.frame.opening.schedules }
     ensures { Fits d result × ((s : Stores) → IsScheduleStep (granting d (with_schedules s schedules.old) (lodges group day.0 (map signed series.now))) Accepted (changed_by d result) schedules.new) }
 {
-    let frame = d.frame;
-    let opening = frame.opening;
-    let q = opening.quarters as usize;
+    let q = d.frame.opening.quarters as usize;
     let start = (group - 1) as usize * q;
-    put_series(schedules, start, q, series);
-    put_day(frame, day)
+    put_row(schedules, start, series);
+    put_day(d.frame, day)
 }
 
 // What is decided; the schedules are as after the call.
@@ -64,10 +62,9 @@ fn decide_lodge(d: Desk, group: u64, day: Day, series: &[u64], schedules: &mut [
     ensures { Fits d result.effect × ScheduleStepped d (lodges group day.0 (map signed series.now)) schedules.old result.answer (changed_by d result.effect) schedules.new }
 {
     let frame = d.frame;
-    let v = lodge_ruling(d, schedules.len() as u64, group, day, series);
-    match v {
-        Ruling::Refuse(c) => refuse(frame, c),
-        Ruling::Fine => accept(lodged(d, group, day, series, schedules)),
+    match lodge_ruling(d, schedules.len() as u64, group, day, series) {
+        Err(cause) => refuse(frame, cause),
+        Ok(()) => accept(lodged(d, group, day, series, schedules)),
     }
 }
 

@@ -5,11 +5,28 @@ pub mod call;
 pub mod record;
 mod via;
 
-use state::Desk;
+// The numbers that a script gives, put into a lent buffer.
+#[derive(Drop)]
+pub struct Output<'a> {
+    pub numbers: &'a mut [u64],
+    pub filled: usize,
+}
 
-// The desk after a record, and the next place of the output.
-#[derive(Clone, Copy)]
-pub struct Ran {
-    pub desk: Desk,
-    pub next: usize,
+impl Output<'_> {
+    // A number, where there is room for it.
+    fn put(&mut self, number: u64) {
+        if self.filled < self.numbers.len() {
+            self.numbers[self.filled] = number;
+            self.filled += 1;
+        }
+    }
+
+    // A row, where there is room for all of it.
+    fn put_row(&mut self, row: &[u64]) {
+        if self.filled <= self.numbers.len() && row.len() <= self.numbers.len() - self.filled {
+            let end = self.filled + row.len();
+            self.numbers[self.filled..end].copy_from_slice(row);
+            self.filled = end;
+        }
+    }
 }

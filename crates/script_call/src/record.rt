@@ -1,5 +1,5 @@
 // A record of a script: its number, the four lengths of the stores that are lent to it, its own numbers.
-ghost use Rattle.std.specs.Prelude.{◌≤◌, length};
+ghost use Rattle.std.specs.Prelude.{◌≤◌, length, IfSome};
 
 use message::call::{ASSIGNMENT, CLOSING, ISSUING, MOST_FIELDS};
 use writer::fields::{field_at, pad_fields};
@@ -27,7 +27,7 @@ pub const WRITE: u64 = 14;
 // Where a record's own numbers begin.
 const OWN: usize = 5;
 
-// How many numbers a record has, from number 0 on, the energies of a submission or a lodging apart.
+// How many numbers a record has, the energies of a submission or a lodging apart; 0 for number 0, which no record has.
 const SIZES: [usize; 15] = [0, 26, 10, 7, SUBMITTED, 9, 8, 7, 7, 7, LODGED, 7, 7, 11, 8];
 
 // Where a submission's energies begin; their count stands before them.
@@ -36,49 +36,34 @@ pub const SUBMITTED: usize = 9;
 // The same of a lodging.
 pub const LODGED: usize = 8;
 
-// 0 for what is no record.
-fn size_of(op: u64) -> usize {
-    if op <= WRITE {
-        let i = op as usize;
-        return SIZES[i];
-    }
-    0
-}
-
 // How many energies stand behind the numbers of the record at the head of what is left of a script.
 fn energies_in(rest: &[u64]) -> u64 {
-    let op = field_at(rest, 0);
-    if op == SUBMIT {
-        return field_at(rest, SUBMITTED - 1);
+    match field_at(rest, 0) {
+        SUBMIT => field_at(rest, SUBMITTED - 1),
+        LODGE => field_at(rest, LODGED - 1),
+        _ => 0,
     }
-    if op == LODGE {
-        return field_at(rest, LODGED - 1);
-    }
-    0
 }
 
-// The length of that record; 0 where there is none, or it is cut short.
-pub fn record_length(rest: &[u64]) -> usize
-    ensures { result ≤ length rest.now }
+// That record; none where there is none, or it is cut short.
+pub fn record_in(rest: &[u64]) -> Option<&[u64]>
+    ensures { IfSome result (λ r. (1 ≤ length r.now) × (length r.now ≤ length rest.now)) }
 {
-    let size = size_of(field_at(rest, 0));
-    if rest.len() < size {
-        return 0;
+    let op = field_at(rest, 0);
+    let size = SIZES.get(op as usize).copied().unwrap_or(0);
+    if size == 0 || rest.len() < size {
+        return None;
     }
     let count = energies_in(rest);
-    let left = (rest.len() - size) as u64;
-    if left < count {
-        return 0;
+    if ((rest.len() - size) as u64) < count {
+        return None;
     }
-    size + count as usize
+    Some(&rest[..size + count as usize])
 }
 
 // The numbers of a record from a place on; none where it has fewer.
 pub fn behind(record: &[u64], at: usize) -> &[u64] {
-    if record.len() < at {
-        return &record[0..0];
-    }
-    &record[at..]
+    record.get(at..).unwrap_or(&[])
 }
 
 // A record's own numbers, with 0 behind them.
@@ -88,14 +73,10 @@ pub fn fields_in(record: &[u64]) -> [u64; MOST_FIELDS] {
 
 // The kind under which a message file has the call: up to assign the same number; 0, which is no kind, for one that no file has and for what is no call.
 pub fn kind_in_file(op: u64) -> u64 {
-    if op <= ASSIGNMENT {
-        return op;
+    match op {
+        0..=ASSIGNMENT => op,
+        CLOSE => CLOSING,
+        ISSUE => ISSUING,
+        _ => 0,
     }
-    if op == CLOSE {
-        return CLOSING;
-    }
-    if op == ISSUE {
-        return ISSUING;
-    }
-    0
 }

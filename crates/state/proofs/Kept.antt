@@ -11,6 +11,7 @@ use borrow.Author.Tests.{eqb-true, eq-eqb, ne_eqb}
 use lib.Dec.{eqb}
 use lib.ListN.{length, take, set, length-map, get_or-map}
 use lib.Seq.{length-take-le, take-set-lt, take-suc-set}
+use Rattle.std.specs.Prelude.{Option, Some, None}
 use Rattle.quantity.proofs.Tests.{by-test, and-left, and-right, and-both}
 use Rattle.state.proofs.Lists.{take-map_first}
 use Rattle.state.proofs.Picks.{best-set, best-comes, reread, best-reread, held-right, own-highest, own-tells}
@@ -18,10 +19,9 @@ use Rattle.state.specs.Change.{submitted, confirm, noticed, settle, settled_by, 
 use Rattle.state.specs.Desk.{versions_in}
 use Rattle.state.specs.Selection.{row_at, raise_earlier, version_of, is_counted, own, with_status, SameVersion, IsHighest, Highest}
 use Rattle.state.specs.Status.{counts, is_check, confirmed_status, settled_status}
-use Rattle.state.specs.Version.{empty_version, restatus, record_at, is_at, is_version, held, HeldIn}
+use Rattle.state.specs.Version.{empty_version, restatus, record_at, is_at, is_version, held, HeldIn, held_version}
 use Rattle.state.specs.declared.Desk.{Desk}
-use Rattle.state.specs.declared.Held.{Held}
-use Rattle.state.specs.declared.Held.TheVariants.{Absent, Has}
+use Rattle.state.specs.declared.HeldVersion.{HeldVersion}
 use Rattle.state.specs.declared.Selection.{Selection}
 use Rattle.state.specs.declared.Selection.TheVariants.{None, Selected}
 use Rattle.state.specs.declared.Status.{Status}
@@ -43,20 +43,20 @@ is-check CorrectionSettled e = absurd (false≢true e)
 pub notice-negative : (c p x y d : ℕ) (vs : List VersionRecord) → (y ≡ 1 → ⊥) → noticed c p x y d vs ≡ vs
 notice-negative c p x y d vs ne = go (held p x vs)
   where
-    go : (h : Held) → confirm c y d h vs ≡ vs
-    go Absent = refl
-    go (Has i v) = rw (ne_eqb y 1 ne)
+    go : (h : Option HeldVersion) → confirm c y d h vs ≡ vs
+    go None = refl
+    go (Some h) = rw (ne_eqb y 1 ne)
 
 -- "Positive turns status 1 into 2 if day ≤ C, else 4.": exactly the record found is restated
-pub notice-positive : (c p x d i : ℕ) (v : VersionRecord) (vs : List VersionRecord) → held p x vs ≡ Has i v → v.status ≡ Check
+pub notice-positive : (c p x d i : ℕ) (v : VersionRecord) (vs : List VersionRecord) → held p x vs ≡ Some (held_version i v) → v.status ≡ Check
     → noticed c p x 1 d vs ≡ set vs i (restatus (confirmed_status c d) v)
 notice-positive c p x d i v vs e s = rw (e, s)
 
 -- and the point's own selection in a run takes it where its new status counts: no record of its number stands before it
-pub notice-own : (run c p x d i : ℕ) (v : VersionRecord) (vs : List VersionRecord) → held p x vs ≡ Has i v → v.status ≡ Check
+pub notice-own : (run c p x d i : ℕ) (v : VersionRecord) (vs : List VersionRecord) → held p x vs ≡ Some (held_version i v) → v.status ≡ Check
     → own run p (noticed c p x 1 d vs) ≡ cond (counts run (confirmed_status c d)) (raise_earlier (own run p vs) (row_at i (restatus (confirmed_status c d) v))) (own run p vs)
 notice-own run c p x d i v vs e check =
-    let h : HeldIn p x vs (length vs) (Has i v) = subst (HeldIn p x vs (length vs)) e (held-right p x vs) in
+    let h : HeldIn p x vs (length vs) (Some (held_version i v)) = subst (HeldIn p x vs (length vs)) e (held-right p x vs) in
     let f = is_counted run p in
     let s = confirmed_status c d in
     let found : is_version p x v ≡ true = rw h.here at h.found in
@@ -73,14 +73,14 @@ notice-own run c p x d i v vs e check =
 pub notice-other : (run q c p x y d : ℕ) (vs : List VersionRecord) → (p ≡ q → ⊥) → own run q (noticed c p x y d vs) ≡ own run q vs
 notice-other run q c p x y d vs ne = go (held p x vs) (held-right p x vs)
   where
-    go : (h : Held) → HeldIn p x vs (length vs) h → own run q (confirm c y d h vs) ≡ own run q vs
-    go Absent k = refl
-    go (Has i v) k =
-        let found : is_version p x v ≡ true = rw k.here at k.found in
-        let e = eqb-true v.point.0 p (and-left (is_at p v) _ found) in
-        let off = ne_eqb v.point.0 q (λ j. ne (sym e ∙ j)) in
-        by-test (λ (l : List VersionRecord). own run q l ≡ own run q vs) (eqb y 1 && is_check v.status) (set vs i (restatus (confirmed_status c d) v)) vs
-        (λ _. best-set (is_counted run q) vs i (restatus (confirmed_status c d) v) (rw (k.here, off)) (rw off))
+    go : (h : Option HeldVersion) → HeldIn p x vs (length vs) h → own run q (confirm c y d h vs) ≡ own run q vs
+    go None k = refl
+    go (Some h) k =
+        let found : is_version p x h.record ≡ true = rw k.here at k.found in
+        let e = eqb-true h.record.point.0 p (and-left (is_at p h.record) _ found) in
+        let off = ne_eqb h.record.point.0 q (λ j. ne (sym e ∙ j)) in
+        by-test (λ (l : List VersionRecord). own run q l ≡ own run q vs) (eqb y 1 && is_check h.record.status) (set vs h.at (restatus (confirmed_status c d) h.record)) vs
+        (λ _. best-set (is_counted run q) vs h.at (restatus (confirmed_status c d) h.record) (rw (k.here, off)) (rw off))
         (λ _. refl)
 
 -- ---- settling
@@ -194,11 +194,11 @@ module _ (d : Desk) where
       c : ℕ
       c = d.frame.opening.clearing.0
 
-      go : (k : Held) → HeldIn p x (versions_in d) (length (versions_in d)) k → take d.frame.count (confirm c y day k d.versions) ≡ confirm c y day k (versions_in d)
-      go Absent w = refl
-      go (Has i v) w =
+      go : (k : Option HeldVersion) → HeldIn p x (versions_in d) (length (versions_in d)) k → take d.frame.count (confirm c y day k d.versions) ≡ confirm c y day k (versions_in d)
+      go None w = refl
+      go (Some k) w =
           let n = length-take-le d.frame.count d.versions h in
-          cond-take (eqb y 1 && is_check v.status) _ _ (take-set-lt d.frame.count d.versions i (restatus (confirmed_status c day) v) (omega (arith, w.within)))
+          cond-take (eqb y 1 && is_check k.record.status) _ _ (take-set-lt d.frame.count d.versions k.at (restatus (confirmed_status c day) k.record) (omega (arith, w.within)))
         where
           cond-take : (t : Bool) (a b : List VersionRecord) → take d.frame.count a ≡ b → take d.frame.count (cond t a d.versions) ≡ cond t b (versions_in d)
           cond-take true a b q = q

@@ -11,6 +11,7 @@ use borrow.Author.Tests.{leb-true, leb-false, ltb-true, ltb-false, eqb-true, ne_
 use lib.Dec.{leb, ltb, eqb}
 use lib.ListN.{length, set, length-set}
 use lib.Seq.{get_or-set_same, get_or-set_other}
+use Rattle.std.specs.Prelude.{Option, Some, None}
 use Rattle.quantity.proofs.Lists.{all-in}
 use Rattle.quantity.proofs.Tests.{by-test, and-left, and-right}
 use Rattle.quantity.specs.Limits.{point_ok, version_ok}
@@ -22,9 +23,8 @@ use Rattle.state.specs.Selection.{row_at, raise, raise_earlier, raise_if, best, 
 use Rattle.state.specs.Status.{status_number, counts}
 use Rattle.state.specs.Valid.{version_record_ok}
 use Rattle.state.specs.Walk.{walk}
-use Rattle.state.specs.Version.{empty_version, record_at, is_at, is_version, or_held, held, HeldIn}
-use Rattle.state.specs.declared.Held.{Held}
-use Rattle.state.specs.declared.Held.TheVariants.{Absent, Has}
+use Rattle.state.specs.Version.{empty_version, record_at, is_at, is_version, or_held, held, HeldIn, held_version}
+use Rattle.state.specs.declared.HeldVersion.{HeldVersion}
 use Rattle.state.specs.declared.Selection.{Selection}
 use Rattle.state.specs.declared.Selection.TheVariants.{None, Selected}
 use Rattle.state.specs.declared.Status.{Status}
@@ -261,14 +261,14 @@ module _ (p x : ℕ) (vs : List VersionRecord) where
   -- the version found is the one asked for, and the first record of it
   pub held-right : HeldIn p x vs (length vs) (held p x vs)
   unfolding held
-  held-right = walk-keeps (or_held p x) (HeldIn p x vs) vs empty_version (λ h i _ k. go h i k) Absent (λ j k. absurd (omega arith))
+  held-right = walk-keeps (or_held p x) (HeldIn p x vs) vs empty_version (λ h i _ k. go h i k) None (λ j k. absurd (omega arith))
     where
-      go : (h : Held) (i : ℕ) → HeldIn p x vs i h → HeldIn p x vs (suc i) (or_held p x h i (record_at vs i))
-      go Absent i k =
-          by-test (HeldIn p x vs (suc i)) (is_version p x (record_at vs i)) (Has i (record_at vs i)) Absent
+      go : (h : Option HeldVersion) (i : ℕ) → HeldIn p x vs i h → HeldIn p x vs (suc i) (or_held p x h i (record_at vs i))
+      go None i k =
+          by-test (HeldIn p x vs (suc i)) (is_version p x (record_at vs i)) (Some (held_version i (record_at vs i))) None
           (λ e. record { within = omega arith; found = e; here = refl; first = k })
           (λ e. up_to _ i k e)
-      go (Has j v) i k = record { within = omega (arith, k.within); found = k.found; here = k.here; first = k.first }
+      go (Some h) i k = record { within = omega (arith, k.within); found = k.found; here = k.here; first = k.first }
 
 -- ---- selections
 

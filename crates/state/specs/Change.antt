@@ -1,13 +1,12 @@
 -- What accepted calls make of the versions and of the desk.
-use Rattle.std.specs.Prelude.{ℕ, ◌+◌, cond, ◌&&◌, List, [], ◌∷◌, ◌++◌, map, eqb, set}
+use Rattle.std.specs.Prelude.{ℕ, ◌+◌, cond, ◌&&◌, List, [], ◌∷◌, ◌++◌, map, eqb, set, Option, Some, None}
 use Rattle.state.specs.Desk.{versions_in, desk_with, the_versions}
 use Rattle.state.specs.Selection.{own, version_of}
 use Rattle.state.specs.Status.{counts, is_check, confirmed_status, settled_status}
 use Rattle.state.specs.Version.{restatus, held}
 use Rattle.state.specs.Walk.{map_first}
 use Rattle.state.specs.declared.Desk.{Desk}
-use Rattle.state.specs.declared.Held.{Held}
-use Rattle.state.specs.declared.Held.TheVariants.{Absent, Has}
+use Rattle.state.specs.declared.HeldVersion.{HeldVersion}
 use Rattle.state.specs.declared.VersionRecord.{VersionRecord}
 
 -- "Each submission makes a version that takes a row of values"
@@ -15,9 +14,9 @@ abbrev pub submitted : VersionRecord → List VersionRecord → List VersionReco
 submitted v vs = vs ++ (v ∷ [])
 
 -- "Positive turns status 1 into 2 if day ≤ C, else 4. Negative changes no status.": of the version found
-abbrev pub confirm : (clearing verdict day : ℕ) → Held → List VersionRecord → List VersionRecord
-confirm c y d Absent vs = vs
-confirm c y d (Has i v) vs = cond (eqb y 1 && is_check v.status) (set vs i (restatus (confirmed_status c d) v)) vs
+abbrev pub confirm : (clearing verdict day : ℕ) → Option HeldVersion → List VersionRecord → List VersionRecord
+confirm c y d None vs = vs
+confirm c y d (Some h) vs = cond (eqb y 1 && is_check h.record.status) (set vs h.at (restatus (confirmed_status c d) h.record)) vs
 
 -- the same of the versions held
 abbrev pub noticed : (clearing point version verdict day : ℕ) → List VersionRecord → List VersionRecord
@@ -41,7 +40,7 @@ abbrev pub submitted_desk : Desk → VersionRecord → Desk
 submitted_desk d v = desk_with d (the_versions (d.frame.count + 1) (set d.versions d.frame.count v))
 
 -- the desk after a notice on the version found
-abbrev pub noticed_desk : Desk → Held → (verdict day : ℕ) → Desk
+abbrev pub noticed_desk : Desk → Option HeldVersion → (verdict day : ℕ) → Desk
 noticed_desk d h y day = desk_with d (the_versions d.frame.count (confirm d.frame.opening.clearing.0 y day h d.versions))
 
 -- the desk with its versions settled in a run

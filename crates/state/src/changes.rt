@@ -50,9 +50,10 @@ pub fn put_point(f: Frame, point: PointNo, p: PointRecord, day: Day) -> Effect
         at: point.0 - 1,
         record: p,
     };
-    let mut frame = f;
-    frame.day = day;
-    Effect { tables, frame }
+    Effect {
+        tables,
+        frame: Frame { day, ..f },
+    }
 }
 
 // A version's record put, so many held, and so many rows of the log used.
@@ -61,10 +62,12 @@ pub fn put_version(f: Frame, at: u64, v: VersionRecord, count: u64, used: u64, d
     ensures { (d : Desk) → d.frame ≡ f → Fits d result × (changed_by d result ≡ desk_with (desk_with (desk_with d (the_versions count (set d.versions at v))) (the_used used)) (the_day day.0)) }
 {
     let tables = Tables::Version { at, record: v };
-    let mut frame = f;
-    frame.count = count;
-    frame.used = used;
-    frame.day = day;
+    let frame = Frame {
+        count,
+        used,
+        day,
+        ..f
+    };
     Effect { tables, frame }
 }
 
@@ -73,21 +76,15 @@ pub fn put_group(f: Frame, area: u64, group: u64, day: Day) -> Effect
     requires { area < deltas }
     ensures { (d : Desk) → d.frame ≡ f → Fits d result × (changed_by d result ≡ desk_with (desk_with d (the_groups (with_group (sets_both d.frame.opening day.0) area group d.frame.groups))) (the_day day.0)) }
 {
-    let opening = f.opening;
-    let groups = f.groups;
-    let mut frame = f;
-    frame.groups = with_group(groups, sets_both(opening, day), area, group);
-    frame.day = day;
-    unchanged(frame)
+    let groups = with_group(f.groups, sets_both(f.opening, day), area, group);
+    unchanged(Frame { groups, day, ..f })
 }
 
 // The day alone.
 pub fn put_day(f: Frame, day: Day) -> Effect
     ensures { (d : Desk) → d.frame ≡ f → Fits d result × (changed_by d result ≡ desk_with d (the_day day.0)) }
 {
-    let mut frame = f;
-    frame.day = day;
-    unchanged(frame)
+    unchanged(Frame { day, ..f })
 }
 
 // The flags with that of a run set.
@@ -104,33 +101,28 @@ pub fn with_flag(flags: Runs, run: u64) -> Runs
 pub fn close_run(f: Frame, run: u64, day: Day) -> Effect
     ensures { (d : Desk) → d.frame ≡ f → Fits d result × (changed_by d result ≡ desk_with (desk_with d (the_closed (flagged run d.frame.closed))) (the_day day.0)) }
 {
-    let flags = f.closed;
-    let mut frame = f;
-    frame.closed = with_flag(flags, run);
-    frame.day = day;
-    unchanged(frame)
+    let closed = with_flag(f.closed, run);
+    unchanged(Frame { closed, day, ..f })
 }
 
 // The run is issued, and its versions are settled.
 pub fn issue_run(f: Frame, run: u64, day: Day) -> Effect
     ensures { (d : Desk) → d.frame ≡ f → valid_desk d ≡ true → Fits d result × (changed_by d result ≡ desk_with (desk_with (settled_desk d run) (the_issued (flagged run d.frame.issued))) (the_day day.0)) }
 {
-    let flags = f.issued;
-    let tables = Tables::Settled { run };
-    let mut frame = f;
-    frame.issued = with_flag(flags, run);
-    frame.day = day;
-    Effect { tables, frame }
+    let issued = with_flag(f.issued, run);
+    Effect {
+        tables: Tables::Settled { run },
+        frame: Frame { issued, day, ..f },
+    }
 }
 
 // A desk that is not open made anew.
 pub fn open_desk(opening: Opening, groups: [u64; DELTAS as usize]) -> Effect
     ensures { (d : Desk) → is_open d.frame.opening ≡ false → Fits d result × (changed_by d result ≡ open_desk opening groups) }
 {
-    let frame = open_frame(opening, groups);
     Effect {
         tables: Tables::Fresh,
-        frame,
+        frame: open_frame(opening, groups),
     }
 }
 
@@ -145,25 +137,16 @@ pub fn new_version(
     requires row_lt_versions { row < versions }
     ensures { result ≡ new_version first.0 row point.0 version.0 day.0 }
 {
-    let status = submitted_status(first, day);
     VersionRecord {
         version,
         point: ShortPoint(point.0 as u16),
         row: Row(row as u16),
-        status,
+        status: submitted_status(first, day),
     }
 }
 
 pub fn restated(v: VersionRecord, status: Status) -> VersionRecord
     ensures { result ≡ restatus status v }
 {
-    let version = v.version;
-    let point = v.point;
-    let row = v.row;
-    VersionRecord {
-        version,
-        point,
-        row,
-        status,
-    }
+    VersionRecord { status, ..v }
 }

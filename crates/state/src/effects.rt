@@ -20,10 +20,8 @@ pub fn changed(d: Desk, e: Effect) -> Desk
     requires { Fits d e }
     ensures { result ≡ changed_by d e }
 {
-    let tables = e.tables;
-    let frame = e.frame;
     let mut n = d;
-    match tables {
+    match e.tables {
         Tables::Same => {}
         Tables::Fresh => {
             n = fresh_desk();
@@ -35,10 +33,9 @@ pub fn changed(d: Desk, e: Effect) -> Desk
             n.versions[at as usize] = record;
         }
         Tables::Settled { run } => {
-            let versions = n.versions;
-            n.versions = settled_versions(versions, n.frame.count, run);
+            n.versions = settled_versions(n.versions, n.frame.count, run);
         }
     }
-    n.frame = frame;
+    n.frame = e.frame;
     n
 }

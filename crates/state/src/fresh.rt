@@ -43,9 +43,8 @@ pub fn opened(opening: Opening, groups: [u64; DELTAS as usize]) -> Desk
         row: Row(0),
         status: Status::Check,
     };
-    let frame = open_frame(opening, groups);
     Desk {
-        frame,
+        frame: open_frame(opening, groups),
         points: [free; POINTS as usize],
         versions: [empty; VERSIONS as usize],
     }

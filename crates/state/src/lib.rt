@@ -139,9 +139,9 @@ pub enum Selection {
 
 // A version that was asked for: where it stands in the version table, and its record.
 #[derive(Clone, Copy)]
-pub enum Held {
-    Absent,
-    Has { at: u64, record: VersionRecord },
+pub struct HeldVersion {
+    pub at: u64,
+    pub record: VersionRecord,
 }
 
 // What becomes of the two tables: both are made anew, one record of one of them is put, or the versions are settled in a run.

@@ -3,14 +3,14 @@ ghost use Rattle.std.specs.Prelude.{◌≡◌, cond};
 ghost use Rattle.state.specs.Selection.{row_at, raise, raise_earlier, is_counted, higher_of, version_of, status_of, or_else};
 ghost use Rattle.state.specs.Version.{is_at, is_version};
 
-use crate::statuses::{counts_in, number};
+use crate::statuses::counts_in;
 use crate::{Selection, VersionRecord, VersionRow};
 use quantity::{PointNo, Version};
 
 pub fn is_at(v: VersionRecord, point: PointNo) -> bool
     ensures { result ≡ is_at point.0 v }
 {
-    v.point.0 as u64 == point.0
+    u64::from(v.point.0) == point.0
 }
 
 pub fn is_version(v: VersionRecord, point: PointNo, version: Version) -> bool
@@ -22,22 +22,18 @@ pub fn is_version(v: VersionRecord, point: PointNo, version: Version) -> bool
 pub fn is_counted(v: VersionRecord, run: u64, point: PointNo) -> bool
     ensures { result ≡ is_counted run point.0 v }
 {
-    let status = v.status;
-    is_at(v, point) & counts_in(run, status)
+    is_at(v, point) & counts_in(run, v.status)
 }
 
 // A record as a row of the version table.
 pub fn row_at(at: u64, v: VersionRecord) -> VersionRow
     ensures { result ≡ row_at at v }
 {
-    let version = v.version;
-    let row = v.row;
-    let status = v.status;
     VersionRow {
         at,
-        version,
-        row,
-        status,
+        version: v.version,
+        row: v.row,
+        status: v.status,
     }
 }
 
@@ -96,8 +92,7 @@ pub fn version_of(s: Selection) -> Version
     let Selection::Selected(row) = s else {
         return Version(0);
     };
-    let version = row.version;
-    version
+    row.version
 }
 
 pub fn status_of(s: Selection) -> u64
@@ -106,8 +101,7 @@ pub fn status_of(s: Selection) -> u64
     let Selection::Selected(row) = s else {
         return 0;
     };
-    let status = row.status;
-    number(status)
+    u64::from(row.status)
 }
 
 pub fn or_else(s: Selection, t: Selection) -> Selection

@@ -17,16 +17,14 @@ use quantity::limits::{POINTS, VERSIONS};
 pub fn no_tops() -> [Version; POINTS as usize]
     ensures { result ≡ replicate points no_version }
 {
-    let none = Version(0);
-    [none; POINTS as usize]
+    [Version(0); POINTS as usize]
 }
 
 // A record that counts and is its point's highest is restated.
 pub fn settled_record(v: VersionRecord, run: u64, top: Version) -> VersionRecord
     ensures { result ≡ settle_by run top.0 v }
 {
-    let status = v.status;
-    if counts_in(run, status) & (v.version.0 == top.0) {
+    if counts_in(run, v.status) & (v.version.0 == top.0) {
         restated(v, settled_status(run))
     } else {
         v
@@ -48,17 +46,13 @@ pub fn settled_versions(
     let n = count as usize;
     for i in 0..n {
         let v = vs[i];
-        let status = v.status;
-        let version = v.version;
         let k = (v.point.0 - 1) as usize;
-        let top = tops[k];
-        tops[k] = higher(top, counts_in(run, status), version);
+        tops[k] = higher(tops[k], counts_in(run, v.status), v.version);
     }
     for i in 0..n {
         let v = vs[i];
         let k = (v.point.0 - 1) as usize;
-        let top = tops[k];
-        vs[i] = settled_record(v, run, top);
+        vs[i] = settled_record(v, run, tops[k]);
     }
     vs
 }

@@ -5,15 +5,17 @@ ghost use Rattle.state.specs.Status.{status_number, counts, is_check, submitted_
 use crate::Status;
 use quantity::Day;
 
-pub fn number(s: Status) -> u64
-    ensures { result ≡ status_number s }
-{
-    match s {
-        Status::Check => 1,
-        Status::Settlement => 2,
-        Status::Settled => 3,
-        Status::Correction => 4,
-        Status::CorrectionSettled => 5,
+impl From<Status> for u64 {
+    ghost from_gives = { λ s n. n ≡ status_number s };
+
+    fn from(s: Status) -> u64 {
+        match s {
+            Status::Check => 1,
+            Status::Settlement => 2,
+            Status::Settled => 3,
+            Status::Correction => 4,
+            Status::CorrectionSettled => 5,
+        }
     }
 }
 
@@ -22,17 +24,15 @@ pub fn counts_in(run: u64, s: Status) -> bool
 {
     match s {
         Status::Check => false,
-        Status::Settlement => run == 1,
-        Status::Settled => run == 1,
-        Status::Correction => run == 2,
-        Status::CorrectionSettled => run == 2,
+        Status::Settlement | Status::Settled => run == 1,
+        Status::Correction | Status::CorrectionSettled => run == 2,
     }
 }
 
 pub fn is_check(s: Status) -> bool
     ensures { result ≡ is_check s }
 {
-    number(s) == 1
+    matches!(s, Status::Check)
 }
 
 pub fn submitted_status(first: Day, day: Day) -> Status

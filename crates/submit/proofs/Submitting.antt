@@ -8,6 +8,7 @@ use borrow.Author.Tests.{eq-eqb, eqb-true, lt-ltb, ltb-false, leb-false, not-fal
 use lib.Dec.{leb, ltb, eqb}
 use lib.ListN.{length, length-map}
 use lib.Seq.{length-take-le}
+use Rattle.std.specs.Prelude.{Ok, Option}
 use Rattle.quantity.specs.Limits.{versions, version_ok, point_ok, day_ok}
 use Rattle.quantity.specs.Lists.{all}
 use Rattle.quantity.specs.Word.{signed}
@@ -41,9 +42,8 @@ use Rattle.model.specs.Log.{turn_of, due}
 use Rattle.model.specs.Step.{version_by, amend_by, amended, granting}
 use Rattle.model.specs.View.{view_of}
 use Rattle.model.specs.declared.Answer.TheVariants.{Accepted}
-use Rattle.model.specs.declared.Due.{Due}
+use Rattle.model.specs.declared.LogRow.{LogRow}
 use Rattle.model.specs.declared.Turn.{Turn}
-use Rattle.model.specs.declared.Ruling.TheVariants.{Fine}
 use Rattle.model.proofs.Rules.{passed, past}
 use Rattle.amend.specs.Lent.{SeriesIn, TurnIn}
 use Rattle.amend.proofs.Logs.{room-left}
@@ -86,10 +86,10 @@ module _ (q : ℕ) (values stored : List ℕ) (same : length stored ≡ length v
         new2 = series-same t.new2 h.new2;
       }
 
-module _ (d : Desk) (p x day : ℕ) (series values book log : List ℕ) (t : Turn) (o : Due)
+module _ (d : Desk) (p x day : ℕ) (series values book log : List ℕ) (t : Turn) (o : Option LogRow)
     (T : t ≡ turn_of (versions_in d) (submitted_in d p x day) p) (D : o ≡ due (versions_in d) (submitted_in d p x day) p day) where
   module _ (s : Sound d) (table : length d.versions ≡ versions)
-      (fine : first_of (rules (view_of d) (lengths_in no_lengths (sizes_of values book log)) (submits p x day (map signed series))) ≡ Fine) where
+      (fine : first_of (rules (view_of d) (lengths_in no_lengths (sizes_of values book log)) (submits p x day (map signed series))) ≡ Ok tt) where
     abbrev lines : List Rule
     lines = rules (view_of d) (lengths_in no_lengths (sizes_of values book log)) (submits p x day (map signed series))
 

@@ -1,5 +1,5 @@
 -- What the parts of a submission ask of one another.
-use Rattle.std.specs.Prelude.{◌≡◌, cond, List, map, ℕ, ◌+◌, ◌*◌, ◌≤◌, ◌<◌, length}
+use Rattle.std.specs.Prelude.{◌≡◌, cond, List, map, ℕ, ◌+◌, ◌*◌, ◌≤◌, ◌<◌, length, Option}
 use Rattle.quantity.specs.Limits.{versions}
 use Rattle.quantity.specs.Word.{word, signed}
 use Rattle.quantity.specs.declared.Version.{Version}
@@ -19,7 +19,7 @@ use Rattle.state.specs.declared.VersionRow.{VersionRow}
 use Rattle.checks.specs.declared.Survey.{Survey}
 use Rattle.model.specs.Log.{logged, used_after}
 use Rattle.model.specs.Step.{version_by, amend_by}
-use Rattle.model.specs.declared.Due.{Due}
+use Rattle.model.specs.declared.LogRow.{LogRow}
 use Rattle.model.specs.declared.Turn.{Turn}
 use Rattle.amend.specs.Lent.{RoomIn, Changed}
 
@@ -40,7 +40,7 @@ abbrev pub submitted_in : Desk → (point version day : ℕ) → List VersionRec
 submitted_in d p x day = submitted (version_by d p x day) (versions_in d)
 
 -- what a submission that is not refused has passed, by the frame and what is lent
-pub record Granted (f : Frame) (here : PointState) (series values book log : List ℕ) (t : Turn) (due : Due) : Type 0 where
+pub record Granted (f : Frame) (here : PointState) (series values book log : List ℕ) (t : Turn) (due : Option LogRow) : Type 0 where
   pub changed : Changed f here values book t
   pub left : RoomIn f.used log due
   pub full : length series ≡ f.opening.quarters
@@ -48,7 +48,7 @@ pub record Granted (f : Frame) (here : PointState) (series values book log : Lis
   pub room : (f.count + 1) * f.opening.quarters ≤ length values
 
 -- what it makes of each desk with that frame, and of values, book and log; v is the version that it makes
-pub record Delivered (f : Frame) (here : PointState) (v : VersionRecord) (day : ℕ) (t : Turn) (due : Due) (series values book log : List ℕ) (e : Effect) (values' book' log' : List ℕ) : Type 0 where
+pub record Delivered (f : Frame) (here : PointState) (v : VersionRecord) (day : ℕ) (t : Turn) (due : Option LogRow) (series values book log : List ℕ) (e : Effect) (values' book' log' : List ℕ) : Type 0 where
   pub desk : (d : Desk) → Fits (with_frame d f) e × (changed_by (with_frame d f) e ≡ desk_with (desk_with (submitted_desk (with_frame d f) v) (the_used (used_after due f.used))) (the_day day))
   pub valued : values' ≡ splice values (rows_used f * f.opening.quarters) f.opening.quarters (map word (map signed series))
   pub booked : book' ≡ amend_by f.opening.quarters f.groups here t values' book

@@ -14,16 +14,16 @@ ghost use Rattle.checks.specs.Stepped.{Stepped};
 ghost use Rattle.submit.specs.Submit.{turn_by, submitted_in, Granted, Delivered};
 
 use crate::conditions::{no_row, submit_ok, too_early};
-use amend::copies::put_series;
+use amend::copies::put_row;
 use amend::log::due_by;
 use amend::turns::follow;
 use checks::decisions::{accept, outcome, refuse};
-use checks::looks::{absent, asking_versions, is_open, look};
+use checks::looks::{asking_versions, is_open, look};
 use checks::points::is_active;
-use checks::rules::or_if;
+use checks::rules::refuse_if;
 use checks::stores::{log_full, other_lengths};
 use checks::{Decided, Look, Outcome, Sizes, Survey};
-use model::{Cause, Due, Ruling, Turn};
+use model::{Cause, LogRow, Turn};
 use quantity::{Day, PointNo, Version};
 use state::changes::{new_version, put_version};
 use state::selections::raised_if;
@@ -35,62 +35,52 @@ pub fn submit_turn(f: Frame, s: Survey, version: Version, day: Day) -> Turn
     requires { f.count ≤ versions }
     ensures { result ≡ turn_by f version day.0 s }
 {
-    let opening = f.opening;
-    let first = opening.first;
-    let status = submitted_status(first, day);
+    let status = submitted_status(f.opening.first, day);
     let row = VersionRow {
         at: f.count,
         version,
         row: Row(f.count as u16),
         status,
     };
-    let old1 = s.first;
-    let old2 = s.second;
-    let new1 = raised_if(counts_in(1, status), old1, row);
-    let new2 = raised_if(counts_in(2, status), old2, row);
+    let new1 = raised_if(counts_in(1, status), s.first, row);
+    let new2 = raised_if(counts_in(2, status), s.second, row);
     Turn {
-        old1,
+        old1: s.first,
         new1,
-        old2,
+        old2: s.second,
         new2,
     }
 }
 
 // The table's lines for a submission, in their order.
+#[tactic(auto, unfolding(model::specs::Causes::first_of, model::specs::Causes::or_if, model::specs::Causes::is_absent, quantity::specs::Lists::fold))]
 fn submit_ruling(
     f: Frame,
     l: Look,
-    due: Due,
+    due: Option<LogRow>,
     point: PointNo,
     version: Version,
     day: Day,
     series: &[u64],
     n: Sizes,
-) -> Ruling
+) -> Result<(), Cause>
     requires count_le_versions { (f.count ≤ versions) × (f.opening.quarters ≤ most_quarters) }
     requires used_bound { 4 * f.used ≤ f.opening.log }
     ensures { OfEach f (asking_versions point.0 version.0) l (λ d. due ≡ due_of (versions_in d) (submitted_in d point.0 version.0 day.0) point.0 day.0 → (m : Lengths) → result ≡ first_of (rules (view_of d) (lengths_in m n) (submits point.0 version.0 day.0 (map signed series.now)))) }
 {
     let o = f.opening;
-    let here = l.here;
-    let found = l.survey;
-    let held = found.held;
-    let highest = found.highest;
-    let k0 = or_if(Ruling::Fine, !is_open(o), Cause::NotOpen);
-    let k1 = or_if(k0, other_lengths(o, n), Cause::WrongLength);
-    let k2 = or_if(
-        k1,
-        !submit_ok(point, version, day, o.quarters, series),
-        Cause::BadField,
-    );
-    let k3 = or_if(k2, day.0 < f.day.0, Cause::PastDay);
-    let k4 = or_if(k3, o.correction.0 < day.0, Cause::AfterCorrection);
-    let k5 = or_if(k4, !is_active(here), Cause::NotActive);
-    let k6 = or_if(k5, too_early(here, day), Cause::TooEarly);
-    let k7 = or_if(k6, !absent(held), Cause::VersionPresent);
-    let k8 = or_if(k7, version.0 < highest.0, Cause::VersionBelow);
-    let k9 = or_if(k8, no_row(f.count, o.quarters, o.values), Cause::NoRow);
-    or_if(k9, log_full(f.used, o.log, due), Cause::NoLogRow)
+    refuse_if(!is_open(o), Cause::NotOpen)?;
+    refuse_if(other_lengths(o, n), Cause::WrongLength)?;
+    let fits = submit_ok(point, version, day, o.quarters, series);
+    refuse_if(!fits, Cause::BadField)?;
+    refuse_if(day.0 < f.day.0, Cause::PastDay)?;
+    refuse_if(o.correction.0 < day.0, Cause::AfterCorrection)?;
+    refuse_if(!is_active(l.here), Cause::NotActive)?;
+    refuse_if(too_early(l.here, day), Cause::TooEarly)?;
+    refuse_if(l.survey.held.is_some(), Cause::VersionPresent)?;
+    refuse_if(version.0 < l.survey.highest.0, Cause::VersionBelow)?;
+    refuse_if(no_row(f.count, o.quarters, o.values), Cause::NoRow)?;
+    refuse_if(log_full(f.used, o.log, due), Cause::NoLogRow)
 }
 
 // The values, the book and the log after a submission that is not refused. The effect has its version, the log rows used and its day.
@@ -98,7 +88,7 @@ fn submit_granted(
     f: Frame,
     here: PointState,
     turn: Turn,
-    due: Due,
+    due: Option<LogRow>,
     v: VersionRecord,
     day: Day,
     series: &[u64],
@@ -109,11 +99,10 @@ fn submit_granted(
     requires { Granted f here series.now values.old book.old log.old turn due }
     ensures { Delivered f here v day.0 turn due series.now values.old book.old log.old result values.new book.new log.new }
 {
-    let opening = f.opening;
-    let q = opening.quarters as usize;
+    let q = f.opening.quarters as usize;
     let at = f.count;
     let start = at as usize * q;
-    put_series(values, start, q, series);
+    put_row(values, start, series);
     let used = follow(f, here, turn, due, values, book, log);
     put_version(f, at, v, at + 1, used, day)
 }
@@ -141,17 +130,13 @@ pub fn decide_submit(
         book: book.len() as u64,
         log: log.len() as u64,
     };
-    let found = l.survey;
-    let turn = submit_turn(f, found, version, day);
+    let turn = submit_turn(f, l.survey, version, day);
     let due = due_by(turn, point, day);
-    let ruling = submit_ruling(f, l, due, point, version, day, series, n);
-    match ruling {
-        Ruling::Refuse(c) => refuse(f, c),
-        Ruling::Fine => {
-            let here = l.here;
-            let opening = f.opening;
-            let v = new_version(opening.first, f.count, point, version, day);
-            accept(submit_granted(f, here, turn, due, v, day, series, values, book, log))
+    match submit_ruling(f, l, due, point, version, day, series, n) {
+        Err(cause) => refuse(f, cause),
+        Ok(()) => {
+            let v = new_version(f.opening.first, f.count, point, version, day);
+            accept(submit_granted(f, l.here, turn, due, v, day, series, values, book, log))
         }
     }
 }
@@ -169,7 +154,6 @@ pub fn submit(
     ensures { Stepped d (submits point.0 version.0 day.0 (map signed series.now)) values.old book.old log.old result.answer result.desk values.new book.new log.new }
 {
     let l = look(d, asking_versions(point, version));
-    let frame = d.frame;
-    let r = decide_submit(frame, l, point, version, day, series, values, book, log);
+    let r = decide_submit(d.frame, l, point, version, day, series, values, book, log);
     outcome(d, r)
 }

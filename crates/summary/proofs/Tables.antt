@@ -1,13 +1,13 @@
 -- Rows of numbers put one after the other, and answers counted from the last on. Assumes nothing.
 use Prim.Native.Nat.{ℕ, zero, suc, ◌+◌, ◌-◌, ◌*◌, ◌≤◌, ◌<◌}
 use mathlib.Core.Path.{◌≡◌, refl, sym, ap, ◌∙◌}
-use mathlib.Core.List.{List, [], ◌∷◌, ◌++◌, append_assoc, append-nil}
+use mathlib.Core.List.{List, [], ◌∷◌, ◌++◌, append_assoc}
 use native.Mathlib.Omega.{arith}
 use native.Mathlib.Numerals.{add-one}
 use borrow.Author.Tests.{eq-eqb, ne_eqb}
-use lib.ListN.{length, take, drop, get_or, length-append, length-drop, drop_of_length-le}
-use lib.Seq.{take_at, drop_at, drop-drop, drop-cons, take-length, length-take-le, get_or-take}
-use Rattle.book.specs.Row.{part, splice}
+use lib.ListN.{length, take, drop, get_or, length-append, drop_of_length-le}
+use lib.Seq.{take_at, drop_at, drop-drop, drop-cons, length-take-le, get_or-take}
+use Rattle.book.specs.Row.{splice}
 use Rattle.replay.specs.Replay.{over}
 use Rattle.state.specs.declared.PointState.{PointState}
 use Rattle.state.specs.declared.PointState.TheVariants.{Free, Active}
@@ -27,13 +27,6 @@ unfolding splice
 over-more new row old at k e f =
     rw (take_at new (drop (length new) old) at e, drop_at new (drop (length new) old) at e, drop-drop k (length new) old, length-append new row, f)
     (sym (append_assoc new row (drop (length new + k) old)))
-
--- a row that was copied to a part of its length
-pub row-put : (out row part' : List ℕ) (at : ℕ) → at + length row ≤ length out → part' ≡ part row 0 (length row) ++ drop (length row) (part out at (length row)) → part' ≡ row
-unfolding part
-row-put out row part' at h e =
-    let n : length (take (length row) (drop at out)) ≤ length row = omega (arith, length-take-le (length row) (drop at out) (omega (arith, length-drop at out))) in
-    e ∙ rw (take-length row, drop_of_length-le (take (length row) (drop at out)) n) (append-nil row)
 
 module _ (f : ℕ → List ℕ) (k : ℕ) (wide : (i : ℕ) → length (f i) ≡ k) where
   pub rows-length : (n : ℕ) → length (rows_to n f) ≡ k * n

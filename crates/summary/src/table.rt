@@ -1,17 +1,16 @@
 // The desk's points and versions as numbers, and how many of its answers are refusals.
-ghost use Rattle.std.specs.Prelude.{◌≡◌, ◌+◌, ◌≤◌, length, take};
-ghost use Rattle.book.specs.Row.{splice};
+ghost use Rattle.std.specs.Prelude.{◌≡◌, ◌≤◌, length, take};
 ghost use Rattle.replay.specs.Replay.{over};
 ghost use Rattle.checks.specs.Picks.{selected_in};
 ghost use Rattle.summary.specs.Table.{points_places, versions_places, point_places, point_table, version_places, version_table, refusals, first_refused};
 
 use crate::Refusals;
-use amend::copies::copy_row;
+use amend::copies::put_row;
 use checks::PointPicks;
 use checks::picks::{picks_of, selected_in};
+use checks::surveys::records_in;
 use quantity::limits::{POINTS, VERSIONS};
 use state::selections::{status_of, version_of};
-use state::statuses::number;
 use state::{PointRecord, PointState, Selection, VersionRecord};
 
 // How many numbers a point has.
@@ -23,15 +22,6 @@ const VERSION_NUMBERS: usize = 4;
 pub const POINT_PLACES: usize = POINT_NUMBERS * POINTS as usize;
 
 pub const VERSION_PLACES: usize = VERSION_NUMBERS * VERSIONS as usize;
-
-// A row into the places from `at` on.
-pub fn put_row(out: &mut [u64], at: usize, row: &[u64])
-    requires { at + length row.now ≤ length out.old }
-    ensures { out.new ≡ splice out.old at (length row.now) row.now }
-{
-    let end = at + row.len();
-    copy_row(row, 0, row.len(), &mut out[at..end]);
-}
 
 fn point_places(state: PointState, first: Selection, second: Selection) -> [u64; POINT_NUMBERS]
     ensures { result ≡ point_places state first second }
@@ -79,25 +69,19 @@ pub fn put_points(
     ensures { out.new ≡ over (point_table points (take count versions)) out.old }
 {
     let table = picks_of(versions, count);
-    let mut i = 0;
-    while i < POINTS as usize {
-        let point = points[i];
-        let state = point.state;
-        let picks = table[i];
-        let row = point_row(state, picks);
+    for i in 0..POINTS as usize {
+        let row = point_row(points[i].state, table[i]);
         put_row(out, POINT_NUMBERS * i, &row);
-        i += 1;
     }
 }
 
 fn version_places(v: VersionRecord) -> [u64; VERSION_NUMBERS]
     ensures { result ≡ version_places v }
 {
-    let status = v.status;
     [
         v.point.0 as u64,
         v.version.0,
-        number(status),
+        u64::from(v.status),
         v.row.0 as u64,
     ]
 }
@@ -107,17 +91,9 @@ pub fn put_versions(out: &mut [u64], versions: [VersionRecord; VERSIONS as usize
     requires { versions_places ≤ length out.old }
     ensures { out.new ≡ over (version_table (take count versions)) out.old }
 {
-    let n = if count < VERSIONS {
-        count as usize
-    } else {
-        VERSIONS as usize
-    };
-    let mut i = 0;
-    while i < n {
-        let version = versions[i];
-        let row = version_places(version);
+    for i in 0..records_in(count) {
+        let row = version_places(versions[i]);
         put_row(out, VERSION_NUMBERS * i, &row);
-        i += 1;
     }
 }
 
@@ -128,9 +104,7 @@ pub fn refusals_of(answers: &[u64], n: usize) -> Refusals
 {
     let mut count = 0;
     let mut first = 0;
-    let mut i = n;
-    while 0 < i {
-        i -= 1;
+    for i in (0..n).rev() {
         if answers[i] != 0 {
             count += 1;
             first = i as u64 + 1;

@@ -5,13 +5,11 @@ mod row;
 mod script;
 mod walk;
 
-// The lengths of the buffers, and the next place of the output.
+// The lengths of the stores' buffers.
 #[derive(Clone, Copy)]
 pub struct Room {
     pub values: usize,
     pub book: usize,
     pub log: usize,
     pub schedules: usize,
-    pub out: usize,
-    pub next: usize,
 }

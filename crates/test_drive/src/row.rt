@@ -6,6 +6,7 @@ ghost use Rattle.test_drive.specs.Rows.{added, replaced};
 use book::Way;
 
 #[unsafe(no_mangle)]
+#[tactic(auto, unfolding(crate::specs::Rows::added, book::specs::Row::changed))]
 pub extern "C" fn drive_add_row(row: &mut [u64], series: &[u64])
     ensures { row.new ≡ added row.old series.now }
 {
@@ -16,6 +17,7 @@ pub extern "C" fn drive_add_row(row: &mut [u64], series: &[u64])
 
 // The old series out and the new one in, in one pass.
 #[unsafe(no_mangle)]
+#[tactic(auto, unfolding(crate::specs::Rows::replaced, book::specs::Row::changed))]
 pub extern "C" fn drive_replace_row(row: &mut [u64], old: &[u64], new: &[u64])
     ensures { row.new ≡ replaced row.old old.now new.now }
 {
@@ -28,6 +30,7 @@ pub extern "C" fn drive_replace_row(row: &mut [u64], old: &[u64], new: &[u64])
 
 // The same in two passes.
 #[unsafe(no_mangle)]
+#[tactic(auto, unfolding(crate::specs::Rows::replaced, book::specs::Row::changed))]
 pub extern "C" fn drive_replace_row_twice(row: &mut [u64], old: &[u64], new: &[u64])
     ensures { row.new ≡ replaced row.old old.now new.now }
 {

@@ -15,9 +15,7 @@ pub extern "C" fn drive_walk(
 )
     ensures { Driven table.now count rows point version out.old out.new }
 {
-    if table.len() == TABLE {
-        if OUT <= out.len() {
-            put_walks_of(table, count, rows, point, version, out);
-        }
+    if table.len() == TABLE && OUT <= out.len() {
+        put_walks_of(table, count, rows, point, version, out);
     }
 }

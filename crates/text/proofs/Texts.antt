@@ -18,7 +18,9 @@ use Rattle.std.proofs.lemmas.Slice.{drop-put_mid}
 use Rattle.io.specs.Digits.{last_digits, hex_digit_ascii, IsDigitCount}
 use Rattle.quantity.specs.Word.{signed}
 use Rattle.text.specs.Line.{answer_line}
+use Rattle.text.specs.Puts.{Puts}
 use Rattle.text.specs.Text.{Put, digit, minus, decimal, decimal_in, signed_text, each_to}
+use Rattle.text.specs.declared.field.Text.{Text}
 
 glyph-digit : (d : ℕ) → d < 10 → hex_digit_ascii d ≡ digit d
 glyph-digit d h = rw (lt-ltb d 10 h)
@@ -155,15 +157,41 @@ put-few {a = a} {c = c} {t = t} {l = l} {l' = l'} x low high few =
     let n : c ≡ a + length t = sym (length-take-le c l' high) ∙ ap (λ (s : List ℕ). length s) x.holds ∙ length-append (take a l) t ∙ ap (λ (k : ℕ). k + length t) (length-take-le a l low) in
     record { holds = x.holds; rest = x.rest; from = x.from; few = omega arith }
 
+-- the same of a buffer and what is filled of it: no text
+pub puts-none : (a : Text) → Puts 0 [] a a
+puts-none a = record { put = put-none a.filled a.buffer.now; room = refl; same = refl }
+
+pub puts-then : {m p : ℕ} {t u : List ℕ} {a b c : Text} → Puts m t a b → Puts p u b c → Puts (m + p) (t ++ u) a c
+puts-then x y = record { put = put-then x.put y.put; room = y.room ∙ x.room; same = y.same ∙ x.same }
+
+pub puts-as : {m p : ℕ} {t u : List ℕ} {a b : Text} → Puts m t a b → m ≤ p → t ≡ u → Puts p u a b
+puts-as x h e = record { put = put-as x.put h e; room = x.room; same = x.same }
+
+-- what the text puts stands in the buffer that was lent for it
+pub puts-out : {m : ℕ} {t l : List ℕ} {a b : Text} → Puts m t a b → (a.buffer.ghost_name ≡ b.buffer.ghost_name → l ≡ b.buffer.now) → Put m a.filled t a.buffer.now l b.filled
+puts-out x f = rw (f (sym x.same)) x.put
+
+-- of a buffer that has room for it
+pub puts-few : {m p : ℕ} {t : List ℕ} {a b : Text} → Puts m t a b → a.filled + m ≤ length a.buffer.now → length t ≤ p → Puts p t a b
+puts-few x h few =
+    record { put = put-few x.put (omega arith) (omega (arith, x.put.few, x.room)) few; room = x.room; same = x.same }
+
 -- the text of one number more, each in at most m bytes
-pub put-each : {a b c : ℕ} {l l' l'' : List ℕ} (m n : ℕ) (f : ℕ → List ℕ) → Put (m * n) a (each_to n f) l l' b → Put m b (f (n + 1)) l' l'' c → Put (m * (n + 1)) a (each_to (n + 1) f) l l'' c
+pub puts-each : {a b c : Text} (m n : ℕ) (f : ℕ → List ℕ) → Puts (m * n) (each_to n f) a b → Puts m (f (n + 1)) b c → Puts (m * (n + 1)) (each_to (n + 1) f) a c
 unfolding each_to
-put-each m n f x y = rw (add-one, mul-suc) (put-then x (rw add-one at y))
+puts-each m n f x y = rw (add-one, mul-suc) (puts-then x (rw add-one at y))
+
+-- the same, by the number that comes next
+pub puts-next : {a b c : Text} (m n : ℕ) (f : ℕ → List ℕ) → 1 ≤ n → Puts (m * (n - 1)) (each_to (n - 1) f) a b → Puts m (f n) b c → Puts (m * (n + 1 - 1)) (each_to (n + 1 - 1) f) a c
+puts-next m n f h x y =
+    let less : n - 1 + 1 ≡ n = omega arith in
+    let same : n + 1 - 1 ≡ n - 1 + 1 = omega arith in
+    rw same (puts-each m (n - 1) f x (rw less y))
 
 -- of none
-pub put-first : (m a : ℕ) (f : ℕ → List ℕ) (l : List ℕ) → Put (m * 0) a (each_to 0 f) l l a
+pub puts-first : (f : ℕ → List ℕ) (a : Text) → Puts 0 (each_to 0 f) a a
 unfolding each_to
-put-first m a f l = put-as (put-none a l) (omega arith) refl
+puts-first f a = puts-none a
 
 -- texts that are the same for each number
 pub each-same : (n : ℕ) (f g : ℕ → List ℕ) → ((i : ℕ) → 1 ≤ i → i ≤ n → f i ≡ g i) → each_to n f ≡ each_to n g

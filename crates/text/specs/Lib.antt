@@ -1,3 +1,4 @@
 pub mod Laws
 pub mod Line
+pub mod Puts
 pub mod Text

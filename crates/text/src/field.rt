@@ -1,51 +1,59 @@
-// Numbers as text, put into a buffer from a place on. Each function answers the place behind.
+// Text put into a lent buffer, behind what is filled of it: bytes and numbers.
 ghost use Rattle.std.specs.Prelude.{[], ◌∷◌, ◌+◌, ◌≤◌, length};
 ghost use Rattle.quantity.specs.Word.{signed};
-ghost use Rattle.text.specs.Text.{Put, blank, decimal, signed_text};
+ghost use Rattle.text.specs.Text.{blank, decimal, signed_text};
+ghost use Rattle.text.specs.Puts.{Puts};
 
-use quantity::WattHours;
+use quantity::{WattHours, word};
 
-// The words from here on are those of negative figures.
-const NEGATIVE: u64 = 0x8000_0000_0000_0000;
-
-pub fn put_byte(out: &mut [u8], at: usize, b: u8) -> usize
-    requires { at + 1 ≤ length out.old }
-    ensures { Put 1 at (b ∷ []) out.old out.new result }
-{
-    out[at] = b;
-    at + 1
+// A buffer, and how many of its bytes are filled.
+#[derive(Drop)]
+pub struct Text<'a> {
+    pub buffer: &'a mut [u8],
+    pub filled: usize,
 }
 
-// A number's decimal digits.
-pub fn put_number(out: &mut [u8], at: usize, n: u64) -> usize
-    requires { at + 20 ≤ length out.old }
-    ensures { Put 20 at (decimal n) out.old out.new result }
-{
-    let mut digits = [0u8; 20];
-    let k = io::decimal(n, &mut digits);
-    out[at..at + k].copy_from_slice(&digits[..k]);
-    at + k
-}
-
-// A blank and a number.
-pub fn put_field(out: &mut [u8], at: usize, n: u64) -> usize
-    requires { at + 21 ≤ length out.old }
-    ensures { Put 21 at (blank ∷ decimal n) out.old out.new result }
-{
-    let next = put_byte(out, at, b' ');
-    put_number(out, next, n)
-}
-
-// A blank and a figure.
-pub fn put_figure(out: &mut [u8], at: usize, figure: WattHours) -> usize
-    requires { at + 22 ≤ length out.old }
-    ensures { Put 22 at (blank ∷ signed_text (signed figure.0)) out.old out.new result }
-{
-    let w = figure.0;
-    if w < NEGATIVE {
-        return put_field(out, at, w);
+impl Text<'_> {
+    pub fn put_byte(&mut self, b: u8)
+        requires { self.old.filled + 1 ≤ length self.old.buffer.now }
+        ensures { Puts 1 (b ∷ []) self.old self.new }
+    {
+        self.buffer[self.filled] = b;
+        self.filled += 1;
     }
-    let next = put_byte(out, at, b' ');
-    let then = put_byte(out, next, b'-');
-    put_number(out, then, 0xffff_ffff_ffff_ffff - w + 1)
+
+    // A number's decimal digits.
+    pub fn put_number(&mut self, n: u64)
+        requires { self.old.filled + 20 ≤ length self.old.buffer.now }
+        ensures { Puts 20 (decimal n) self.old self.new }
+    {
+        let mut digits = [0u8; 20];
+        let k = io::decimal(n, &mut digits);
+        let end = self.filled + k;
+        self.buffer[self.filled..end].copy_from_slice(&digits[..k]);
+        self.filled = end;
+    }
+
+    // A blank and a number.
+    pub fn put_field(&mut self, n: u64)
+        requires { self.old.filled + 21 ≤ length self.old.buffer.now }
+        ensures { Puts 21 (blank ∷ decimal n) self.old self.new }
+    {
+        self.put_byte(b' ');
+        self.put_number(n);
+    }
+
+    // A blank and a figure.
+    pub fn put_figure(&mut self, figure: WattHours)
+        requires { self.old.filled + 22 ≤ length self.old.buffer.now }
+        ensures { Puts 22 (blank ∷ signed_text (signed figure.0)) self.old self.new }
+    {
+        let w = figure.0;
+        if !word::is_negative(figure) {
+            return self.put_field(w);
+        }
+        self.put_byte(b' ');
+        self.put_byte(b'-');
+        self.put_number(0xffff_ffff_ffff_ffff - w + 1);
+    }
 }

@@ -3,3 +3,5 @@
 
 pub mod field;
 pub mod line;
+
+pub use field::Text;

@@ -1,10 +1,9 @@
 -- What the driver of the walks makes of a table of numbers, and what it writes.
-use Rattle.std.specs.Prelude.{cond, List, [], ◌∷◌, ◌≡◌, ℕ, ◌+◌, ◌*◌, ◌<◌, ◌≤◌, length, get_or, set, take}
+use Rattle.std.specs.Prelude.{cond, List, [], ◌∷◌, ◌≡◌, ℕ, ◌+◌, ◌*◌, ◌<◌, ◌≤◌, length, get_or, set, take, Option, Some, None}
 use Rattle.book.specs.Row.{splice}
 use Rattle.state.specs.Selection.{version_of, status_of}
 use Rattle.state.specs.Version.{record_at}
-use Rattle.state.specs.declared.Held.{Held}
-use Rattle.state.specs.declared.Held.TheVariants.{Absent, Has}
+use Rattle.state.specs.declared.HeldVersion.{HeldVersion}
 use Rattle.state.specs.declared.Selection.{Selection}
 use Rattle.state.specs.declared.Selection.TheVariants.{None, Selected}
 use Rattle.state.specs.declared.VersionRecord.{VersionRecord}
@@ -23,14 +22,14 @@ pub record Made (table : List ℕ) (vs : List VersionRecord) : Type 0 where
   pub each : (k : ℕ) → k < 512 → record_at vs k ≡ record_from table (4 * k)
 
 -- 1 where the version was found
-abbrev pub is_held : Held → ℕ
-is_held Absent = 0
-is_held (Has i v) = 1
+abbrev pub is_held : Option HeldVersion → ℕ
+is_held None = 0
+is_held (Some h) = 1
 
 -- its index, 0 without it
-abbrev pub held_at : Held → ℕ
-held_at Absent = 0
-held_at (Has i v) = i
+abbrev pub held_at : Option HeldVersion → ℕ
+held_at None = 0
+held_at (Some h) = h.at
 
 -- the index of a selection, 0 without one
 abbrev pub selected_at : Selection → ℕ

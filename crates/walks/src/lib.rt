@@ -1,16 +1,16 @@
 // For tests only: the two walks over the versions, on a table of numbers that may hold anything.
 #![tactic(auto)]
 
-ghost use Rattle.std.specs.Prelude.{◌≡◌, cond, ◌+◌, ◌≤◌, length};
+ghost use Rattle.std.specs.Prelude.{◌≡◌, ◌+◌, ◌≤◌, length};
 ghost use Rattle.walks.specs.Walk.{record_from, Made, is_held, held_at, selected_at, numbers_of, walks_in, Walks};
 
-use amend::copies::put_series;
+use amend::copies::put_row;
 use checks::surveys::{survey, survey_tested};
 use checks::{Survey, Tested};
 use damage::record_of;
 use quantity::limits::VERSIONS;
 use quantity::{PointNo, Version};
-use state::{Held, Row, Selection, ShortPoint, Status, VersionRecord, selections};
+use state::{HeldVersion, Row, Selection, ShortPoint, Status, VersionRecord, selections};
 
 // How many numbers a record has: version, point, row, status.
 const RECORD: usize = 4;
@@ -43,37 +43,22 @@ fn records_of(table: &[u64]) -> [VersionRecord; VERSIONS as usize]
         status: Status::Check,
     };
     let mut versions = [empty; VERSIONS as usize];
-    let mut i = 0;
-    while i < VERSIONS as usize {
-        let v = record_at(table, RECORD * i);
-        versions[i] = v;
-        i += 1;
+    for i in 0..VERSIONS as usize {
+        versions[i] = record_at(table, RECORD * i);
     }
     versions
 }
 
-fn flag(set: bool) -> u64
-    ensures { result ≡ cond set 1 0 }
-{
-    if set { 1 } else { 0 }
-}
-
-fn is_held(held: Held) -> u64
+fn is_held(held: Option<HeldVersion>) -> u64
     ensures { result ≡ is_held held }
 {
-    match held {
-        Held::Absent => 0,
-        Held::Has { at: _, record: _ } => 1,
-    }
+    held.map_or(0, |_| 1)
 }
 
-fn held_at(held: Held) -> u64
+fn held_at(held: Option<HeldVersion>) -> u64
     ensures { result ≡ held_at held }
 {
-    match held {
-        Held::Absent => 0,
-        Held::Has { at, record: _ } => at,
-    }
+    held.map_or(0, |found| found.at)
 }
 
 fn selected_at(s: Selection) -> u64
@@ -90,19 +75,16 @@ fn selected_at(s: Selection) -> u64
 fn numbers_of(s: Survey) -> [u64; WALK]
     ensures { result ≡ numbers_of s }
 {
-    let held = s.held;
-    let first = s.first;
-    let second = s.second;
     [
-        is_held(held),
-        held_at(held),
+        is_held(s.held),
+        held_at(s.held),
         s.highest.0,
-        selections::status_of(first),
-        selections::version_of(first).0,
-        selected_at(first),
-        selections::status_of(second),
-        selections::version_of(second).0,
-        selected_at(second),
+        selections::status_of(s.first),
+        selections::version_of(s.first).0,
+        selected_at(s.first),
+        selections::status_of(s.second),
+        selections::version_of(s.second).0,
+        selected_at(s.second),
         s.read,
     ]
 }
@@ -112,10 +94,9 @@ fn put_walks(out: &mut [u64], s: Survey, t: Tested)
     requires { 21 ≤ length out.old }
     ensures { out.new ≡ walks_in out.old s t }
 {
-    let tested = t.survey;
-    put_series(out, 0, WALK, &numbers_of(s));
-    put_series(out, WALK, WALK, &numbers_of(tested));
-    out[2 * WALK] = flag(t.fit);
+    put_row(out, 0, &numbers_of(s));
+    put_row(out, WALK, &numbers_of(t.survey));
+    out[2 * WALK] = u64::from(t.fit);
 }
 
 // One walk over the table without the limits of each record, and one with them.

@@ -1,12 +1,10 @@
 -- The table put together, entry by entry.
-use Prim.Native.Nat.{ℕ, ◌+◌, ◌≤◌, ◌<◌}
-use mathlib.Core.Path.{◌≡◌, subst⁻¹, ◌∙◌, ap}
+use Rattle.std.proofs.lemmas.Grind.{common_steps}
+use Prim.Native.Nat.{ℕ, ◌+◌, ◌<◌}
+use mathlib.Core.Path.{◌≡◌, ◌∙◌, ap}
 use mathlib.Core.List.{List}
-use mathlib.Core.Logic.{◌⊎◌, inl, inr}
-use native.Mathlib.Nat.{eq-or-lt_of_le}
 use native.Mathlib.Omega.{arith}
 use lib.ListN.{length, get_or, set}
-use lib.Seq.{get_or-set_same, get_or-set_other}
 use Rattle.workdays.specs.declared.Month.{Month}
 use Rattle.workdays.specs.Date.{length_of, month_at}
 use Rattle.workdays.specs.Count.{worked, before}
@@ -14,14 +12,7 @@ use Rattle.workdays.proofs.Counts.{month-more}
 
 -- an entry more, put at its place
 pub entry-put : (l : List ℕ) (i w : ℕ) → i < length l → w ≡ before i → ((k : ℕ) → k < i → get_or l k 0 ≡ before k) → (k : ℕ) → k < i + 1 → get_or (set l i w) k 0 ≡ before k
-entry-put l i w h e f k s = by (eq-or-lt_of_le r)
-  where
-    r : k ≤ i
-    r = omega arith
-
-    by : (k ≡ i) ⊎ (k < i) → get_or (set l i w) k 0 ≡ before k
-    by (inl q) = subst⁻¹ (λ (j : ℕ). get_or (set l i w) j 0 ≡ before j) q (get_or-set_same l i w 0 h ∙ e)
-    by (inr q) = get_or-set_other l i k w 0 (λ x. omega arith) ∙ f k q
+entry-put l i w h e f k s = grind (arith, common_steps)
 
 -- a month's working days added
 pub month-added : (i w r d : ℕ) (m : Month) → w ≡ before i → m ≡ month_at i → d ≡ length_of m → r ≡ worked m d → w + r ≡ before (i + 1)

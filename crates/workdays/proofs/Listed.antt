@@ -1,4 +1,6 @@
 -- The paper's list of days off, line by line. Assumes nothing.
+use Rattle.std.proofs.lemmas.Grind.{common_steps}
+use Rattle.std.proofs.lemmas.Grind.{common_steps}
 use Prim.Native.Nat.{ℕ, ◌+◌, ◌*◌, ◌≤◌, ◌<◌}
 use mathlib.Core.Path.{◌≡◌, refl, ap, sym, ◌∙◌}
 use mathlib.Core.Bool.{Bool, true, false, not, ◌||◌}
@@ -16,68 +18,44 @@ use Rattle.workdays.specs.Laws.{DaysOff, On, Listed, weekday_of}
 use Rattle.workdays.specs.Laws.Listed.{saturday, sunday, christmas-eve, new-years-eve, new-year, epiphany, womens-day, good-friday, easter-monday, labour-day, ascension, whit-monday, corpus-christi, assumption, childrens-day, unity-day, reformation-day, all-saints, repentance-day, christmas-day, second-day, may_2020, may_2025}
 use Rattle.workdays.proofs.Lengths.{month-length, means-within}
 
-this : (a b : Bool) → a ≡ true → (a || b) ≡ true
-this a b e = rw e
-
-other : (a b : Bool) → b ≡ true → (a || b) ≡ true
-other true b e = refl
-other false b e = e
-
--- one of five
-module _ (a b c d e : Bool) where
-  at-first : a ≡ true → (a || (b || (c || (d || e)))) ≡ true
-  at-first h = this a (b || (c || (d || e))) h
-
-  at-second : b ≡ true → (a || (b || (c || (d || e)))) ≡ true
-  at-second h = other a (b || (c || (d || e))) (this b (c || (d || e)) h)
-
-  at-third : c ≡ true → (a || (b || (c || (d || e)))) ≡ true
-  at-third h = other a (b || (c || (d || e))) (other b (c || (d || e)) (this c (d || e) h))
-
-  at-fourth : d ≡ true → (a || (b || (c || (d || e)))) ≡ true
-  at-fourth h = other a (b || (c || (d || e))) (other b (c || (d || e)) (other c (d || e) (this d e h)))
-
-  at-fifth : e ≡ true → (a || (b || (c || (d || e)))) ≡ true
-  at-fifth h = other a (b || (c || (d || e))) (other b (c || (d || e)) (other c (d || e) (other d e h)))
-
 -- a day off, by one of the rule's five lines
 module _ (y n p : ℕ) where
   by-weekday : 6 ≤ weekday y p → not (off y n p) ≡ false
   unfolding off
-  by-weekday h = ap not (this (weekend (weekday y p)) _ (le-leb 6 (weekday y p) h))
+  by-weekday h = grind (arith, common_steps)
 
   by-date : fixed_off n ≡ true → not (off y n p) ≡ false
   unfolding off
-  by-date h = ap not (at-second (weekend (weekday y p)) (fixed_off n) (easter_off (easter_day y) p) (wednesday_off (weekday y p) n) (once_off y n) h)
+  by-date h = grind (arith, common_steps)
 
   by-easter : easter_off (easter_day y) p ≡ true → not (off y n p) ≡ false
   unfolding off
-  by-easter h = ap not (at-third (weekend (weekday y p)) (fixed_off n) (easter_off (easter_day y) p) (wednesday_off (weekday y p) n) (once_off y n) h)
+  by-easter h = grind (arith, common_steps)
 
   by-wednesday : wednesday_off (weekday y p) n ≡ true → not (off y n p) ≡ false
   unfolding off
-  by-wednesday h = ap not (at-fourth (weekend (weekday y p)) (fixed_off n) (easter_off (easter_day y) p) (wednesday_off (weekday y p) n) (once_off y n) h)
+  by-wednesday h = grind (arith, common_steps)
 
   by-year : once_off y n ≡ true → not (off y n p) ≡ false
   unfolding off
-  by-year h = ap not (at-fifth (weekend (weekday y p)) (fixed_off n) (easter_off (easter_day y) p) (wednesday_off (weekday y p) n) (once_off y n) h)
+  by-year h = grind (arith, common_steps)
 
 -- one of the five days of Easter
 module _ (e p : ℕ) where
   on-friday : p + 2 ≡ e → easter_off e p ≡ true
-  on-friday h = at-first (eqb (p + 2) e) (eqb p (e + 1)) (eqb p (e + 39)) (eqb p (e + 50)) (eqb p (e + 60)) (eq-eqb (p + 2) e h)
+  on-friday h = grind (arith, common_steps)
 
   on-monday : p ≡ e + 1 → easter_off e p ≡ true
-  on-monday h = at-second (eqb (p + 2) e) (eqb p (e + 1)) (eqb p (e + 39)) (eqb p (e + 50)) (eqb p (e + 60)) (eq-eqb p (e + 1) h)
+  on-monday h = grind (arith, common_steps)
 
   thirty-nine : p ≡ e + 39 → easter_off e p ≡ true
-  thirty-nine h = at-third (eqb (p + 2) e) (eqb p (e + 1)) (eqb p (e + 39)) (eqb p (e + 50)) (eqb p (e + 60)) (eq-eqb p (e + 39) h)
+  thirty-nine h = grind (arith, common_steps)
 
   fifty : p ≡ e + 50 → easter_off e p ≡ true
-  fifty h = at-fourth (eqb (p + 2) e) (eqb p (e + 1)) (eqb p (e + 39)) (eqb p (e + 50)) (eqb p (e + 60)) (eq-eqb p (e + 50) h)
+  fifty h = grind (arith, common_steps)
 
   sixty : p ≡ e + 60 → easter_off e p ≡ true
-  sixty h = at-fifth (eqb (p + 2) e) (eqb p (e + 1)) (eqb p (e + 39)) (eqb p (e + 50)) (eqb p (e + 60)) (eq-eqb p (e + 60) h)
+  sixty h = grind (arith, common_steps)
 
 -- the month and day of a date, as one number
 module _ (d : Date) where
@@ -164,18 +142,7 @@ module _ (d : Date) (q : IsDate d) where
       (λ e. second-day (on-day e refl)))))))))))))
 
   only-easter : easter_off (easter_day d.year) (day_of_year d) ≡ true → Listed d
-  only-easter h =
-      either (eqb (p + 2) e) _ h (λ k. good-friday (eqb-true _ _ k))
-      (λ h. either (eqb p (e + 1)) _ h (λ k. easter-monday (eqb-true _ _ k))
-      (λ h. either (eqb p (e + 39)) _ h (λ k. ascension (eqb-true _ _ k))
-      (λ h. either (eqb p (e + 50)) _ h (λ k. whit-monday (eqb-true _ _ k))
-      (λ k. corpus-christi (eqb-true _ _ k)))))
-    where
-      e : ℕ
-      e = easter_day d.year
-
-      p : ℕ
-      p = day_of_year d
+  only-easter h = grind (arith, common_steps)
 
   only-wednesday : wednesday_off (weekday_of d) (month_day d) ≡ true → Listed d
   only-wednesday h =

@@ -1,19 +1,19 @@
 -- The definitions of dates and Easter, judged. Assumes nothing.
+use Rattle.std.proofs.lemmas.Grind.{common_steps}
 use Prim.Native.Nat.{ℕ, suc, ◌+◌, ◌-◌, ◌/◌, ◌%◌, ◌<◌, ◌≤◌}
-use mathlib.Core.Path.{◌≡◌, refl, ap, subst⁻¹, ◌∙◌}
-use mathlib.Core.Bool.{Bool, true, false, cond, ◌&&◌}
+use mathlib.Core.Path.{◌≡◌, refl, ap, ◌∙◌}
+use mathlib.Core.Bool.{Bool, true, ◌&&◌}
 use mathlib.Core.List.{List, [], ◌∷◌}
-use native.Mathlib.Numerals.{add-one}
 use native.Mathlib.Omega.{arith}
-use borrow.Author.Tests.{ltb-true, ltb-false, eqb-true, eqb-false, ne_eqb}
-use lib.Dec.{ltb, eqb}
+use borrow.Author.Tests.{eqb-true}
+use lib.Dec.{eqb}
 use Rattle.quantity.specs.Meaning.{Between}
-use Rattle.quantity.proofs.Tests.{by-test, and-left, and-right}
+use Rattle.quantity.proofs.Tests.{and-left, and-right}
 use Rattle.workdays.specs.declared.Date.{Date}
 use Rattle.workdays.specs.Date.{leap, leap_day, days_in, days_of, IsDate, month_of, length_of, date_named, digits_of, days_before, day_of_year, weekday}
 use Rattle.workdays.specs.Rule.{easter_day, full_moon}
-use Rattle.workdays.specs.Laws.{Reckoned, next_day, first_after, weekday_of, EachFrom, leap_days, easter_dates}
-use Rattle.workdays.proofs.Lengths.{month-length}
+use Rattle.workdays.specs.Laws.{Reckoned, next_day, weekday_of, EachFrom, leap_days, easter_dates}
+use Rattle.workdays.proofs.Lengths.{month-length, days-more}
 
 -- a day more in a year
 weekday-on : (y p : ℕ) → weekday y (p + 1) ≡ weekday y p % 7 + 1
@@ -34,11 +34,7 @@ each-equal f g y (n ∷ l) e =
 -- from a year's first day to the next one's
 year-days : (y : ℕ) → Between 2020 2059 y → days_before (y + 1) ≡ days_before y + 365 + leap_day y
 unfolding leap
-year-days y h = rw (ne_eqb (y % 100) 0 (λ e. omega arith)) (of (eqb (y % 4) 0) refl)
-  where
-    of : (b : Bool) → eqb (y % 4) 0 ≡ b → days_before (y + 1) ≡ days_before y + 365 + cond (b && true) 1 0
-    of true e = let r : y % 4 ≡ 0 = eqb-true (y % 4) 0 e in omega arith
-    of false e = omega (arith, eqb-false (y % 4) 0 e)
+year-days y h = grind (arith, common_steps)
 
 weekday-year : (y p : ℕ) → Between 2020 2059 y → p ≡ 365 + leap_day y → weekday (y + 1) 1 ≡ weekday y p % 7 + 1
 unfolding weekday
@@ -52,21 +48,10 @@ december : (y : ℕ) → days_in y 12 ≡ 31
 unfolding days_in
 december y = refl
 
-days-more : (y k : ℕ) → days_of y (k + 1) ≡ days_of y k + days_in y (k + 1)
-unfolding days_of
-days-more y k = subst⁻¹ (λ (n : ℕ). days_of y n ≡ days_of y k + days_in y n) (add-one k) refl
-
 -- what holds of a day that follows another: inside a month, behind its end, behind a year's end
 module _ (P : Date → Type 0) (d : Date) (q : IsDate d) where
   pub at-next : (d.day < length_of (month_of d) → P (date_named d.year d.month (d.day + 1))) → (d.day ≡ length_of (month_of d) → d.month < 12 → P (date_named d.year (d.month + 1) 1)) → (d.day ≡ length_of (month_of d) → d.month ≡ 12 → P (date_named (d.year + 1) 1 1)) → P (next_day d)
-  at-next inside month year =
-      by-test P (ltb d.day (length_of (month_of d))) _ (first_after (month_of d))
-      (λ e. inside (ltb-true _ _ e))
-      (λ e.
-      let l : d.day ≡ length_of (month_of d) = omega (arith, ltb-false d.day (length_of (month_of d)) e, q) in
-      by-test P (ltb d.month 12) _ _
-      (λ f. month l (ltb-true _ _ f))
-      (λ f. year l (omega (arith, ltb-false d.month 12 f, q))))
+  at-next inside month year = grind (arith, common_steps)
 
 module _ (d : Date) (q : IsDate d) where
   -- the place in the year, a day on

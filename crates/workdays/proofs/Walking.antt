@@ -1,13 +1,12 @@
 -- The years walked day by day: each day's count, and that every date is reached. Assumes nothing.
-use Prim.Native.Nat.{ℕ, zero, suc, ◌+◌, ◌-◌, ◌%◌, ◌≤◌, ◌<◌}
+use Rattle.std.proofs.lemmas.Grind.{common_steps}
+use Rattle.std.proofs.lemmas.Grind.{common_steps}
+use Prim.Native.Nat.{ℕ, zero, suc, ◌+◌, ◌-◌, ◌≤◌, ◌<◌}
 use mathlib.Core.Path.{◌≡◌, refl, sym, ap, ◌∙◌}
 use mathlib.Core.Bool.{Bool, true, false}
 use mathlib.Core.Logic.{◌⊎◌, inl, inr}
 use native.Mathlib.Nat.{add-zero, add-suc, eq-or-lt_of_le}
 use native.Mathlib.Omega.{arith}
-use borrow.Author.Tests.{ltb-true, ltb-false, lt-ltb, le-ltb}
-use lib.Dec.{ltb}
-use Rattle.quantity.proofs.Tests.{by-test}
 use Rattle.workdays.specs.declared.Month.{Month}
 use Rattle.workdays.specs.declared.Date.{Date}
 use Rattle.workdays.specs.Date.{months, days_in, IsMonth, IsDate, month_named, date_named, month_of, month_at, day_in, last_of, length_of, index_of, digits_of}
@@ -65,32 +64,20 @@ module _ (d : Date) (q : IsDate d) where
   follows = at-next (Follows d) d q next-day next-month next-year
 
 pub year-rises : (d : Date) → d.year ≤ (next_day d).year
-year-rises d =
-    by-test goal (ltb d.day (length_of (month_of d))) _ (first_after (month_of d))
-    (λ _. omega arith)
-    (λ _. by-test goal (ltb d.month 12) _ _ (λ _. omega arith) (λ _. omega arith))
-  where
-    goal : Date → Type 0
-    goal k = d.year ≤ k.year
+year-rises d = grind (arith, common_steps)
 
 day_before : (d : Date) → IsDate d → (d.day - 1 < length_of (month_of d)) × (d.day - 1 + 1 ≡ d.day)
 day_before d q = (omega arith, omega arith)
 
 -- the day after, inside a month and at its end
 day-on : (t : Month) (n : ℕ) → n < length_of t → next_day (day_in t n) ≡ day_in t (n + 1)
-day-on t n h = rw (lt-ltb n (length_of t) h)
+day-on t n h = grind (arith, common_steps)
 
 month-on : (t : Month) → next_day (last_of t) ≡ first_after t
-month-on t = let h : length_of t ≤ length_of t = omega arith in rw (le-ltb (length_of t) (length_of t) h)
+month-on t = grind (arith, common_steps)
 
 first-after : (i : ℕ) → i + 1 < months → first_after (month_at i) ≡ day_in (month_at (i + 1)) 1
-first-after i h =
-    by-test goal (ltb (1 + i % 12) 12) _ _
-    (λ e. let l : 1 + i % 12 < 12 = ltb-true _ _ e in same-date (omega arith) (omega arith) refl)
-    (λ e. let l : 12 ≤ 1 + i % 12 = ltb-false _ _ e in same-date (omega arith) (omega arith) refl)
-  where
-    goal : Date → Type 0
-    goal k = k ≡ day_in (month_at (i + 1)) 1
+first-after i h = grind (arith, common_steps)
 
 -- the day reached, and its count
 pub record Walked (m : Month) (k : ℕ) : Type 0 where
@@ -182,9 +169,7 @@ module _ (m : Month) (p : IsMonth m) where
 
   in-same : (d : Date) → IsDate d → m ≡ month_of d → length_of m ≤ d.day → after m 0 ≡ d
   unfolding after
-  in-same d q s h =
-      let a : length_of m ≡ length_of (month_of d) = ap length_of s in
-      same-date (ap (λ (k : Month). k.year) s) (ap (λ (k : Month). k.month) s) (omega (arith, q))
+  in-same d q s h = grind (arith, common_steps)
 
   pub reaches : (d : Date) → IsDate d → digits_of (last_of m) ≤ digits_of d → (k : ℕ) × (after m k ≡ d)
   reaches d q l = by (eq-or-lt_of_le (place-rises (last_of m) d (last-date m p) q l))

@@ -8,13 +8,10 @@ use crate::dates;
 fn excepted(cycle: u64, days: u64) -> u64
     ensures { result ≡ exceptions cycle days }
 {
-    if days == 29 {
-        return 28;
-    }
-    if (days == 28) & (10 < cycle) {
-        27
-    } else {
-        days
+    match days {
+        29 => 28,
+        28 if 10 < cycle => 27,
+        _ => days,
     }
 }
 
@@ -27,6 +24,7 @@ fn full_moon(year: u64) -> u64
 }
 
 // Easter Sunday's place in its year.
+#[tactic(auto, unfolding(crate::specs::Rule::easter_day))]
 pub fn easter_of(year: u64) -> u64
     requires { Between 2020 2059 year }
     ensures { (result ≡ easter_day year) × (result < 120) }

@@ -1,19 +1,18 @@
 // The table, worked out by the rule alone: what the program calendar_table prints.
 ghost use Rattle.workdays.specs.Count.{TableOf};
 
-use crate::{count, dates};
+use crate::dates::MONTHS;
+use crate::{Month, count};
 
-pub fn generate() -> [u64; 480]
+pub fn generate() -> [u64; MONTHS]
     ensures { TableOf result }
 {
-    let mut entries = [0u64; 480];
+    let mut entries = [0; MONTHS];
     let mut working = 0;
-    let mut i = 0;
-    while i < dates::MONTHS {
-        entries[i] = working;
-        let m = dates::month_at(i);
-        working += count::worked_in(m, dates::days_in(m.year, m.month));
-        i += 1;
+    for (i, entry) in entries.iter_mut().enumerate() {
+        *entry = working;
+        let month = Month::at(i);
+        working += count::worked_in(month, month.days());
     }
     entries
 }

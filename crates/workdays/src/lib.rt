@@ -5,6 +5,7 @@ pub mod count;
 pub mod dates;
 pub mod easter;
 pub mod generator;
+pub mod judged;
 pub mod rule;
 
 // A month of a year, 1 to 12.

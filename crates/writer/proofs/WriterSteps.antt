@@ -2,11 +2,12 @@
 use Prim.Native.Nat.{ℕ, ◌+◌, ◌*◌, ◌^◌, ◌<◌, ◌≤◌}
 use mathlib.Core.Path.{◌≡◌, refl, sym, ap, ◌∙◌}
 use mathlib.Core.Bool.{Bool, true, false, cond}
-use mathlib.Core.List.{List, [], ◌∷◌, ◌++◌, map, append_assoc}
+use mathlib.Core.List.{List, [], ◌∷◌, ◌++◌, map, map-map, map-id, append_assoc}
 use native.Mathlib.Omega.{arith}
-use borrow.Author.Tests.{lt-ltb, le-ltb, le-leb, lt-leb, eq-eqb, ne_eqb, leb-true}
+use borrow.Author.Tests.{le-leb, eq-eqb, ne_eqb, leb-true}
 use lib.Dec.{leb, eqb}
 use lib.IntN.{ℤ}
+use Rattle.std.proofs.Common.{Result, Ok, Err}
 use lib.ListN.{length, take, length-append, length-map, length-take}
 use Rattle.quantity.specs.Limits.{most_quarters}
 use Rattle.quantity.specs.Lists.{all}
@@ -15,29 +16,26 @@ use Rattle.quantity.proofs.Tests.{and-left, and-right, within-high}
 use Rattle.message.specs.Number.{fits_number, encode, encode_all}
 use Rattle.message.specs.Energy.{sent, fits_energy}
 use Rattle.message.specs.Call.{Sent, kinds, submission, fields_of, is_kind, tail_of, numbers_of, print, tail_small, small}
-use Rattle.writer.specs.Writer.{energies_for, handed, sized, not_written, written_in, put_in, output_after}
+use Rattle.writer.specs.Writer.{energies_for, handed, sized, put_in}
 use Rattle.message.specs.declared.FileCause.{FileCause}
-use Rattle.message.specs.declared.FileCause.TheVariants.{BadKind, TooLarge, NoRoom}
-use Rattle.writer.specs.declared.Sized.TheVariants.{Bytes, TooLarge as NotSized}
-use Rattle.writer.specs.declared.Written.{Written}
-use Rattle.writer.specs.declared.Written.TheVariants.{Length}
+use Rattle.message.specs.declared.FileCause.TheVariants.{TooLarge}
 use Rattle.message.proofs.Numbers.{encode-append}
 use Rattle.message.proofs.Energies.{series-fits}
 use Rattle.message.proofs.Calls.{fields-few}
-use Rattle.writer.proofs.Writing.{nine, put-none, put-put, put-length, series-length}
+use Rattle.writer.proofs.Writing.{nine, put-none, put-put, put-length}
 
 -- what a size says
-pub sized-fits : (t : Bool) (l : List ℕ) {n : ℕ} → sized t l ≡ Bytes n → t ≡ true
+pub sized-fits : (t : Bool) (l : List ℕ) {n : ℕ} → sized t l ≡ Ok n → t ≡ true
 sized-fits true l e = refl
-sized-fits false l e = absurd (let z : ◌≡◌ {A = ℕ} 0 1 = cc in omega arith)
+sized-fits false l e = absurd (cc)
 
-pub sized-bytes : (t : Bool) (l : List ℕ) {n : ℕ} → sized t l ≡ Bytes n → n ≡ length (encode_all l)
+pub sized-bytes : (t : Bool) (l : List ℕ) {n : ℕ} → sized t l ≡ Ok n → n ≡ length (encode_all l)
 sized-bytes true l e = cc
-sized-bytes false l e = absurd (let z : ◌≡◌ {A = ℕ} 0 1 = cc in omega arith)
+sized-bytes false l e = absurd (cc)
 
-pub sized-large : (t : Bool) (l : List ℕ) → sized t l ≡ NotSized → t ≡ false
-sized-large true l e = absurd (let z : ◌≡◌ {A = ℕ} 0 1 = cc in omega arith)
-sized-large false l e = refl
+pub sized-large : (t : Bool) (l : List ℕ) {x : FileCause} → sized t l ≡ Err x → (t ≡ false) × (x ≡ TooLarge)
+sized-large true l e = absurd (cc)
+sized-large false l e = (refl, cc)
 
 row-nine : (l : List ℕ) → length (encode_all l) ≤ 9 * length l
 unfolding encode_all
@@ -48,33 +46,44 @@ row-cons : (x : ℕ) (l : List ℕ) → length (encode_all (x ∷ l)) ≡ length
 unfolding encode_all
 row-cons x l = length-append (encode x) (encode_all l)
 
+-- the numbers that are sent for words
+pub words-sent : (ws : List ℕ) → map (λ (w : ℕ). sent (signed w)) ws ≡ map sent (map signed ws)
+words-sent ws = sym (map-map sent signed ws)
+
+-- what their size says, and that of fields, which are sent as they are
+pub words-sized : (ws : List ℕ) {r : Result ℕ FileCause} → r ≡ sized (all fits_number (map (λ (w : ℕ). sent (signed w)) ws)) (map (λ (w : ℕ). sent (signed w)) ws) →
+    sized (all fits_number (map sent (map signed ws))) (map sent (map signed ws)) ≡ r
+words-sized ws e = sym (rw (words-sent ws) at e)
+
+pub fields-sized : (fields : List ℕ) {r : Result ℕ FileCause} → r ≡ sized (all fits_number (map (λ (n : ℕ). n) fields)) (map (λ (n : ℕ). n) fields) →
+    sized (all fits_number fields) fields ≡ r
+fields-sized fields e = sym (rw (map-id fields) at e)
+
 -- what follows the fields
 module _ (k : ℕ) (ws : List ℕ) where
-  pub size-none : (k ≡ submission → ⊥) → Bytes 0 ≡ sized (tail_small (energies_for k ws)) (tail_of k (energies_for k ws))
+  pub size-none : (k ≡ submission → ⊥) → Ok 0 ≡ sized (tail_small (energies_for k ws)) (tail_of k (energies_for k ws))
   unfolding all encode_all
   size-none n = rw (ne_eqb k submission n)
 
   module _ (e : k ≡ submission) where
-    pub size-long : most_quarters < length ws → NotSized ≡ sized (tail_small (energies_for k ws)) (tail_of k (energies_for k ws))
-    size-long h = rw (eq-eqb k submission e, length-map ws signed, lt-leb (length ws) most_quarters h)
-
     module _ (few : length ws ≤ most_quarters) where
-      pub size-goes : {m n : ℕ} → m ≡ length (encode (length ws)) → sized (all fits_number (map sent (map signed ws))) (map sent (map signed ws)) ≡ Bytes n →
-          Bytes (m + n) ≡ sized (tail_small (energies_for k ws)) (tail_of k (energies_for k ws))
+      pub size-goes : {m n : ℕ} → m ≡ length (encode (length ws)) → sized (all fits_number (map sent (map signed ws))) (map sent (map signed ws)) ≡ Ok n →
+          Ok (m + n) ≡ sized (tail_small (energies_for k ws)) (tail_of k (energies_for k ws))
       size-goes {m} {n} q s =
           let fit : all fits_energy (map signed ws) ≡ true = sym (series-fits (map signed ws)) ∙ sized-fits (all fits_number (map sent (map signed ws))) (map sent (map signed ws)) s in
           rw (eq-eqb k submission e, length-map ws signed, le-leb (length ws) most_quarters few, fit)
-          (ap Bytes (omega (arith, q, sized-bytes (all fits_number (map sent (map signed ws))) (map sent (map signed ws)) s, row-cons (length ws) (map sent (map signed ws)))))
+          (ap Ok (omega (arith, q, sized-bytes (all fits_number (map sent (map signed ws))) (map sent (map signed ws)) s, row-cons (length ws) (map sent (map signed ws)))))
 
-      pub size-not : sized (all fits_number (map sent (map signed ws))) (map sent (map signed ws)) ≡ NotSized →
-          NotSized ≡ sized (tail_small (energies_for k ws)) (tail_of k (energies_for k ws))
+      pub size-not : {x : FileCause} → sized (all fits_number (map sent (map signed ws))) (map sent (map signed ws)) ≡ Err x →
+          Err x ≡ sized (tail_small (energies_for k ws)) (tail_of k (energies_for k ws))
       size-not s =
-          let unfit : all fits_energy (map signed ws) ≡ false = sym (series-fits (map signed ws)) ∙ sized-large (all fits_number (map sent (map signed ws))) (map sent (map signed ws)) s in
-          rw (eq-eqb k submission e, length-map ws signed, le-leb (length ws) most_quarters few, unfit)
+          let large = sized-large (all fits_number (map sent (map signed ws))) (map sent (map signed ws)) s in
+          let unfit : all fits_energy (map signed ws) ≡ false = sym (series-fits (map signed ws)) ∙ large.0 in
+          rw (eq-eqb k submission e, length-map ws signed, le-leb (length ws) most_quarters few, unfit) (ap Err large.1)
 
-      pub series-few : {n : ℕ} → sized (all fits_number (map sent (map signed ws))) (map sent (map signed ws)) ≡ Bytes n → n ≤ 26820
+      pub series-few : {n : ℕ} → sized (all fits_number (map sent (map signed ws))) (map sent (map signed ws)) ≡ Ok n → n ≤ 26820
       series-few s =
-          omega (arith, sized-bytes (all fits_number (map sent (map signed ws))) (map sent (map signed ws)) s, row-nine (map sent (map signed ws)), series-length ws)
+          omega (arith, sized-bytes (all fits_number (map sent (map signed ws))) (map sent (map signed ws)) s, row-nine (map sent (map signed ws)), length-map (map signed ws) sent, length-map ws signed)
 
 few-after : (es : List ℤ) → tail_small es ≡ true → length es ≤ most_quarters
 few-after es h = leb-true (length es) most_quarters (and-left (leb (length es) most_quarters) (all fits_energy es) h)
@@ -92,34 +101,19 @@ module _ (k : ℕ) (fields ws : List ℕ) {n : ℕ} (count : n ≡ fields_of k) 
   abbrev call : Sent
   call = handed k fields ws
 
-  pub call-head : all fits_number call.fields ≡ false → NotSized ≡ sized (small call) (numbers_of call)
-  call-head e = rw e
-
-  pub call-tail : all fits_number call.fields ≡ true → tail_small call.energies ≡ false → NotSized ≡ sized (small call) (numbers_of call)
-  call-tail a e = rw (a, e)
-
-  pub call-size : {m h t : ℕ} → m ≡ length (encode k) → sized (all fits_number (take n fields)) (take n fields) ≡ Bytes h →
-      sized (tail_small call.energies) (tail_of k call.energies) ≡ Bytes t → Bytes (m + h + t) ≡ sized (small call) (numbers_of call)
+  pub call-size : {m h t : ℕ} → m ≡ length (encode k) → sized (all fits_number (take n fields)) (take n fields) ≡ Ok h →
+      sized (tail_small call.energies) (tail_of k call.energies) ≡ Ok t → Ok (m + h + t) ≡ sized (small call) (numbers_of call)
   call-size {m} {h} {t} q a b =
       let fit : all fits_number call.fields ≡ true = ap (λ (i : ℕ). all fits_number (take i fields)) (sym count) ∙ sized-fits (all fits_number (take n fields)) (take n fields) a in
       let size : h ≡ length (encode_all call.fields) = sized-bytes (all fits_number (take n fields)) (take n fields) a ∙ ap (λ (i : ℕ). length (encode_all (take i fields))) count in
       rw (fit, sized-fits (tail_small call.energies) (tail_of k call.energies) b)
-      (ap Bytes (omega (arith, q, size, sized-bytes (tail_small call.energies) (tail_of k call.energies) b, row-cons k (call.fields ++ tail_of k call.energies), ap length (encode-append call.fields (tail_of k call.energies)) ∙ length-append (encode_all call.fields) (encode_all (tail_of k call.energies)))))
+      (ap Ok (omega (arith, q, size, sized-bytes (tail_small call.energies) (tail_of k call.energies) b, row-cons k (call.fields ++ tail_of k call.energies), ap length (encode-append call.fields (tail_of k call.energies)) ∙ length-append (encode_all call.fields) (encode_all (tail_of k call.energies)))))
 
-  pub head-large : sized (all fits_number (take n fields)) (take n fields) ≡ NotSized → NotSized ≡ sized (small call) (numbers_of call)
-  head-large a = call-head (ap (λ (i : ℕ). all fits_number (take i fields)) (sym count) ∙ sized-large (all fits_number (take n fields)) (take n fields) a)
-
-  pub tail-large : {h : ℕ} → sized (all fits_number (take n fields)) (take n fields) ≡ Bytes h → sized (tail_small call.energies) (tail_of k call.energies) ≡ NotSized →
-      NotSized ≡ sized (small call) (numbers_of call)
-  tail-large a b =
-      call-tail (ap (λ (i : ℕ). all fits_number (take i fields)) (sym count) ∙ sized-fits (all fits_number (take n fields)) (take n fields) a)
-      (sized-large (tail_small call.energies) (tail_of k call.energies) b)
-
-  pub head-few : {h : ℕ} → sized (all fits_number (take n fields)) (take n fields) ≡ Bytes h → h ≤ 189
+  pub head-few : {h : ℕ} → sized (all fits_number (take n fields)) (take n fields) ≡ Ok h → h ≤ 189
   head-few a =
       omega (arith, sized-bytes (all fits_number (take n fields)) (take n fields) a, row-nine (take n fields), length-take n fields, fields-few k)
 
-  pub tail-small : {t : ℕ} → sized (tail_small call.energies) (tail_of k call.energies) ≡ Bytes t → t ≤ 26829
+  pub tail-small : {t : ℕ} → sized (tail_small call.energies) (tail_of k call.energies) ≡ Ok t → t ≤ 26829
   tail-small b =
       omega (arith, sized-bytes (tail_small call.energies) (tail_of k call.energies) b, tail-few k call.energies (few-after call.energies (sized-fits (tail_small call.energies) (tail_of k call.energies) b)))
 
@@ -213,32 +207,3 @@ module _ (k : ℕ) (fields ws out : List ℕ) {n : ℕ} (count : n ≡ fields_of
       put-whole t =
           let w = put-both out 0 (encode k ++ encode_all (take n fields)) (encode_all (tail_of k (energies_for k ws))) both all-room t in
           (omega (arith, w.0, ap length print-is), w.1 ∙ rw print-is)
-
--- what is answered of a call that is handed to the writer, and the output
-abbrev pub WritePost : List ℕ → Sent → Written → List ℕ → Type 0
-WritePost out₀ c r out = (r ≡ written_in (length out₀) c) × (out ≡ output_after r c out₀)
-
-module _ (out₀ : List ℕ) (c : Sent) {r : Written} where
-  write-refused : {x : FileCause} → r ≡ not_written x → written_in (length out₀) c ≡ not_written x → WritePost out₀ c r out₀
-  write-refused e q = rw e (sym q, refl)
-
-  pub write-33 : r ≡ not_written BadKind → is_kind c.kind ≡ false → WritePost out₀ c r out₀
-  write-33 q e = write-refused q (rw e)
-
-  module _ (known : is_kind c.kind ≡ true) where
-    pub write-34 : r ≡ not_written TooLarge → sized (small c) (numbers_of c) ≡ NotSized → WritePost out₀ c r out₀
-    write-34 q e = write-refused q (rw (known, sized-large (small c) (numbers_of c) e))
-
-    pub write-35 : {n : ℕ} → r ≡ not_written NoRoom → sized (small c) (numbers_of c) ≡ Bytes n → length out₀ < n → WritePost out₀ c r out₀
-    write-35 q size h =
-        let l : length out₀ < length (print c) = omega (arith, sized-bytes (small c) (numbers_of c) size) in
-        write-refused q (rw (known, sized-fits (small c) (numbers_of c) size, lt-ltb (length out₀) (length (print c)) l))
-
--- a call that has room
-module _ (out₀ : List ℕ) (c : Sent) (known : is_kind c.kind ≡ true) {n : ℕ} (size : sized (small c) (numbers_of c) ≡ Bytes n) where
-  pub write-room : n ≤ length out₀ → length (print c) ≤ length out₀
-  write-room h = omega (arith, sized-bytes (small c) (numbers_of c) size)
-
-  pub write-ok : {r : ℕ} {out : List ℕ} → n ≤ length out₀ → (r ≡ length (print c)) × (out ≡ put_in out₀ 0 (print c)) → WritePost out₀ c (Length r) out
-  write-ok h p =
-      (ap Length p.0 ∙ rw (known, sized-fits (small c) (numbers_of c) size, le-ltb (length out₀) (length (print c)) (write-room h)), p.1)

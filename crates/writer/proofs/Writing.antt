@@ -1,23 +1,23 @@
 -- How far a number has been written, how far a row of numbers, and each step of it. Assumes nothing.
-use Prim.Native.Nat.{ℕ, zero, suc, ◌+◌, ◌*◌, ◌/◌, ◌%◌, ◌^◌, ◌<◌, ◌≤◌}
+use Prim.Native.Nat.{ℕ, zero, suc, ◌+◌, ◌-◌, ◌*◌, ◌/◌, ◌%◌, ◌^◌, ◌<◌, ◌≤◌}
 use mathlib.Core.Path.{◌≡◌, refl, sym, ap, ◌∙◌}
 use mathlib.Core.Bool.{Bool, true, false}
-use mathlib.Core.List.{List, [], ◌∷◌, ◌++◌, append_assoc, append-nil, map}
+use mathlib.Core.List.{List, [], ◌∷◌, ◌++◌, append_assoc, append-nil}
 use native.Mathlib.Omega.{arith}
 use native.Mathlib.Numerals.{add-one}
-use native.Mathlib.Nat.{div-lt_iff_lt-mul, pow-suc}
+use native.Mathlib.Nat.{div-lt_iff_lt-mul, pow-suc, pow-le-pow_right, one-le-pow}
+use Rattle.std.proofs.lemmas.Nat.{pow-add}
 use native.Mathlib.Decide.{dec_lt}
 use borrow.Author.Tests.{lt-ltb, ltb-true}
-use lib.ListN.{length, take, drop, set, get_or, length-append, length-set, length-drop, length-map, take-append-drop}
-use lib.Seq.{take-suc, take-suc-set, drop-set-lt, drop-drop, length-take-le, take_at, drop_at, take-length, get_or-take}
+use lib.ListN.{length, take, drop, set, get_or, length-append, length-set, length-drop, take-append-drop}
+use lib.Seq.{take-suc, take-suc-set, drop-set-lt, drop-drop, length-take-le, take_at, drop_at}
+use Rattle.std.proofs.Common.{Err}
 use Rattle.quantity.specs.Lists.{all}
-use Rattle.quantity.specs.Word.{signed}
 use Rattle.quantity.proofs.Lists.{all-none, all-more, all-in}
 use Rattle.quantity.proofs.Tests.{and-both}
 use Rattle.message.specs.Number.{fits_number, encode_in, encode, encode_all}
-use Rattle.message.specs.Energy.{sent}
 use Rattle.writer.specs.Writer.{sized, put_in}
-use Rattle.writer.specs.declared.Sized.TheVariants.{Bytes, TooLarge}
+use Rattle.message.specs.declared.FileCause.TheVariants.{TooLarge}
 use Rattle.message.proofs.Numbers.{encode-short, encode-long, encode-some, encode-append}
 
 -- the bytes `done` of n are written, and those of `left` follow
@@ -51,22 +51,6 @@ module _ {n left k : ℕ} {done : List ℕ} (w : Writing n left k done) where
 
   room : length done + 1 ≤ length (encode n)
   room = omega (arith, encode-some k left, ap length w.same ∙ length-append done (encode_in (suc k) left))
-
--- the size so far
-pub record Counting (n left i : ℕ) : Type 0 where
-  pub k : ℕ
-  pub done : List ℕ
-  pub writing : Writing n left k done
-  pub size : i ≡ length done + 1
-
-pub counting : (n : ℕ) → n < 2 ^ 63 → Counting n n 1
-counting n h = record { k = 8; done = []; writing = started n h; size = refl }
-
-pub counted-more : {n left i : ℕ} → Counting n left i → 128 ≤ left → Counting n (left / 128) (i + 1)
-counted-more {n} {left} {i} w h = go (step n left w.k w.done w.writing h)
-  where
-    go : Stepped n left w.done → Counting n (left / 128) (i + 1)
-    go (stepped k v) = record { k = k; done = _; writing = v; size = omega (arith, w.size, length-append w.done ((128 + left % 128) ∷ [])) }
 
 -- the bytes so far
 pub record Putting (out₀ : List ℕ) (at n : ℕ) (out : List ℕ) (left j : ℕ) : Type 0 where
@@ -103,25 +87,41 @@ module _ {out₀ : List ℕ} {at n : ℕ} {out : List ℕ} {left j : ℕ} (w : P
       ∙ ap (λ (x : List ℕ). drop 1 x) w.back
       ∙ drop-drop 1 j out₀
 
-  pub put-more : {b : ℕ} → b ≡ 128 + left % 128 → 128 ≤ left → Putting out₀ at n (set out j b) (left / 128) (j + 1)
-  put-more {b} e h = go (step n left w.k w.done w.writing h)
+  pub put-more : 128 ≤ left → Putting out₀ at n (set out j (128 + left % 128)) (left / 128) (j + 1)
+  put-more h = go (step n left w.k w.done w.writing h)
     where
-      go : Stepped n left w.done → Putting out₀ at n (set out j b) (left / 128) (j + 1)
+      go : Stepped n left w.done → Putting out₀ at n (set out j (128 + left % 128)) (left / 128) (j + 1)
       go (stepped k v) = record {
         k = k;
         done = _;
         writing = v;
         place = omega (arith, w.place, length-append w.done ((128 + left % 128) ∷ []));
-        front = after-front b ∙ rw e;
-        back = after-back b;
-        long = length-set out j b ∙ w.long;
+        front = after-front (128 + left % 128);
+        back = after-back (128 + left % 128);
+        long = length-set out j (128 + left % 128) ∙ w.long;
       }
 
-  pub put-last : {b : ℕ} → b ≡ left → left < 128 → (j + 1 ≡ at + length (encode n)) × (set out j b ≡ put_in out₀ at (encode n))
-  put-last {b} e h = (end, sym (take-append-drop (j + 1) (set out j b)) ∙ rw (after-front b, after-back b, e, sym (ended w.writing h), end) (append_assoc (take at out₀) (encode n) (drop (at + length (encode n)) out₀)))
+  pub put-last : left < 128 → (j + 1 ≡ at + length (encode n)) × (set out j left ≡ put_in out₀ at (encode n))
+  put-last h = (end, sym (take-append-drop (j + 1) (set out j left)) ∙ rw (after-front left, after-back left, sym (ended w.writing h), end) (append_assoc (take at out₀) (encode n) (drop (at + length (encode n)) out₀)))
     where
       end : j + 1 ≡ at + length (encode n)
       end = omega (arith, w.place, ended-length w.writing h)
+
+-- a number whose highest bit is bit b takes a byte for each seven bits up to there
+pub bits-size : (k n b : ℕ) → b < 7 * k → 2 ^ b ≤ n → n < 2 * 2 ^ b → length (encode_in k n) ≡ b / 7 + 1
+bits-size zero n b few low high = absurd (omega arith)
+bits-size (suc k) n b few low high = go (dec_lt b 7) (bits-size k (n / 128) (b - 7))
+  where
+    go : Dec (b < 7) → (b - 7 < 7 * k → 2 ^ (b - 7) ≤ n / 128 → n / 128 < 2 * 2 ^ (b - 7) → length (encode_in k (n / 128)) ≡ (b - 7) / 7 + 1) →
+        length (encode_in (suc k) n) ≡ b / 7 + 1
+    go (yes h) ih =
+        let small : 2 ^ b ≤ 2 ^ 6 = pow-le-pow_right {n = 2} (omega arith) {i = b} {j = 6} (omega arith) in
+        rw (encode-short k n (omega arith)) (omega arith)
+    go (no h) ih =
+        let split : (b - 7) + 7 ≡ b = omega arith in
+        let power : 2 ^ b ≡ 2 ^ (b - 7) * 128 = sym (ap (λ (i : ℕ). 2 ^ i) split) ∙ pow-add 2 (b - 7) 7 in
+        let some : 1 ≤ 2 ^ (b - 7) = one-le-pow (b - 7) 2 (omega arith) in
+        rw (encode-long k n (omega arith)) (omega (arith, ih (omega arith) (omega arith) (omega arith)))
 
 -- a number takes nine bytes at most
 few-in : (k n : ℕ) → length (encode_in k n) ≤ k
@@ -171,17 +171,10 @@ module _ {l : List ℕ} {size i : ℕ} (w : Sizing l size i) where
     few = omega (arith, w.few, nine x);
   }
 
-  pub sized-all : length l ≤ i → Bytes size ≡ sized (all fits_number l) l
-  sized-all h =
-      let n : i ≡ length l = omega (arith, w.inside) in
-      let whole : l ≡ take i l = sym (ap (λ (k : ℕ). take k l) n ∙ take-length l) in
-      let fit : all fits_number l ≡ true = ap (all fits_number) whole ∙ w.fits in
-      rw fit (ap Bytes (w.bytes ∙ ap (λ (x : List ℕ). length (encode_all x)) (sym whole)))
-
-  pub sized-not : {x : ℕ} → i < length l → x ≡ get_or l i 0 → 2 ^ 63 ≤ x → TooLarge ≡ sized (all fits_number l) l
+  pub sized-not : {x : ℕ} → i < length l → x ≡ get_or l i 0 → 2 ^ 63 ≤ x → Err TooLarge ≡ sized (all fits_number l) l
   sized-not {x} h e k = go (all fits_number l) refl
     where
-      go : (t : Bool) → all fits_number l ≡ t → TooLarge ≡ sized t l
+      go : (t : Bool) → all fits_number l ≡ t → Err TooLarge ≡ sized t l
       go true a = absurd (omega (arith, row-fits l i x a h e))
       go false a = refl
 
@@ -231,26 +224,3 @@ module _ {l out₀ : List ℕ} {at : ℕ} {out : List ℕ} {j i : ℕ} (w : Plac
     place = omega (arith, w.place, row-length l i x h e);
     bytes = q ∙ rw (w.bytes, w.place, put-put out₀ at (encode_all (take i l)) (encode x) (omega (arith, before-all i)), sym (row-more l i x h e));
   }
-
-  pub placed-all : length l ≤ i → (j ≡ at + length (encode_all l)) × (out ≡ put_in out₀ at (encode_all l))
-  placed-all h =
-      let n : i ≡ length l = omega (arith, w.inside) in
-      let whole : take i l ≡ l = ap (λ (k : ℕ). take k l) n ∙ take-length l in
-      (w.place ∙ rw whole, w.bytes ∙ rw whole)
-
--- the numbers of a series, one at a time
-pub series-at : (ws : List ℕ) (i : ℕ) → i < length ws → sent (signed (get_or ws i 0)) ≡ get_or (map sent (map signed ws)) i 0
-series-at [] i h = absurd (omega arith)
-series-at (w ∷ ws) zero h = refl
-series-at (w ∷ ws) (suc i) h = series-at ws i (omega arith)
-
-pub series-length : (ws : List ℕ) → length (map sent (map signed ws)) ≡ length ws
-series-length ws = length-map (map signed ws) sent ∙ length-map ws signed
-
--- the first numbers of a list, one at a time
-module _ (l : List ℕ) (n : ℕ) (h : n ≤ length l) where
-  pub part-length : length (take n l) ≡ n
-  part-length = length-take-le n l h
-
-  pub part-at : (i : ℕ) → i < n → get_or l i 0 ≡ get_or (take n l) i 0
-  part-at i k = sym (get_or-take n l i 0 k)

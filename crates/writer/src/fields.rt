@@ -8,21 +8,16 @@ use message::call::MOST_FIELDS;
 pub fn field_at(fields: &[u64], i: usize) -> u64
     ensures { result ≡ get_or fields.now i 0 }
 {
-    if i < fields.len() {
-        return fields[i];
-    }
-    0
+    fields.get(i).copied().unwrap_or(0)
 }
 
 // The first 21 fields, with 0 behind them.
 pub fn pad_fields(fields: &[u64]) -> [u64; MOST_FIELDS]
     ensures { result ≡ fields21 fields.now }
 {
-    let mut padded = [0u64; MOST_FIELDS];
-    let mut i = 0;
-    while i < MOST_FIELDS {
+    let mut padded = [0; MOST_FIELDS];
+    for i in 0..MOST_FIELDS {
         padded[i] = field_at(fields, i);
-        i += 1;
     }
     padded
 }

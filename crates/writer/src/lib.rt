@@ -3,7 +3,7 @@
 
 pub mod fields;
 
-ghost use Rattle.std.specs.Prelude.{◌≡◌, true, map, ◌+◌, ◌<◌, ◌≤◌, ◌^◌, length, take};
+ghost use Rattle.std.specs.Prelude.{ℕ, ◌≡◌, true, map, ◌+◌, ◌<◌, ◌≤◌, ◌^◌, length, take};
 ghost use Rattle.quantity.specs.Limits.{most_quarters};
 ghost use Rattle.quantity.specs.Lists.{all};
 ghost use Rattle.quantity.specs.Word.{signed};
@@ -14,45 +14,48 @@ ghost use Rattle.writer.specs.Writer.{energies_for, handed, sized, not_written, 
 
 use message::call::MOST_FIELDS;
 use message::number::SEVEN_BITS;
-use message::{FileCause, call, energy};
+use message::{FileCause, FileRefusal, call, energy};
 use quantity::{WattHours, limits};
-
-// How many bytes numbers take, where a file can carry them.
-#[derive(Clone, Copy)]
-pub enum Sized {
-    Bytes(usize),
-    TooLarge,
-}
-
-// How many bytes were written, or why nothing was, with the offset 0.
-#[derive(Clone, Copy)]
-pub enum Written {
-    Length(usize),
-    Refused { cause: FileCause, offset: usize },
-}
 
 // The first number that a file cannot carry.
 const LIMIT: u64 = 0x8000_0000_0000_0000;
 
-// How many bytes a number takes.
+// A word that is lent, as a number of the file.
+trait Word {
+    ghost sent_for: { ℕ → ℕ };
+
+    fn number_of(word: u64) -> u64
+        ensures { result ≡ sent_for word };
+}
+
+// A field is sent as it is.
+struct Field;
+
+impl Word for Field {
+    ghost sent_for = { λ n. n };
+
+    fn number_of(word: u64) -> u64 {
+        word
+    }
+}
+
+// An energy of a series.
+struct Energy;
+
+impl Word for Energy {
+    ghost sent_for = { λ w. sent (signed w) };
+
+    fn number_of(word: u64) -> u64 {
+        energy::sent_of(WattHours(word))
+    }
+}
+
+// How many bytes a number takes: one for each seven bits.
 fn number_size(n: u64) -> usize
     requires { n < 2 ^ 63 }
     ensures { result ≡ length (encode n) }
 {
-    let mut left = n;
-    let mut i = 1;
-    while left >= SEVEN_BITS {
-        left /= SEVEN_BITS;
-        i += 1;
-    }
-    i
-}
-
-fn low_byte(n: u64) -> u8
-    requires { n < 256 }
-    ensures { result ≡ n }
-{
-    n as u8
+    n.checked_ilog2().unwrap_or(0) as usize / 7 + 1
 }
 
 // A number's bytes from an index on; the index behind them.
@@ -63,107 +66,65 @@ fn put_number(output: &mut [u8], at: usize, n: u64) -> usize
     let mut left = n;
     let mut j = at;
     while left >= SEVEN_BITS {
-        output[j] = low_byte(SEVEN_BITS + left % SEVEN_BITS);
+        output[j] = (SEVEN_BITS + left % SEVEN_BITS) as u8;
         left /= SEVEN_BITS;
         j += 1;
     }
-    output[j] = low_byte(left);
+    output[j] = left as u8;
     j + 1
 }
 
-// How many bytes the first n fields take.
-fn size_fields(fields: &[u64], n: usize) -> Sized
-    requires { (n ≤ most_fields) × (n ≤ length fields.now) }
-    ensures { result ≡ sized (all fits_number (take n fields.now)) (take n fields.now) }
+// How many bytes words take.
+fn words_size<W: Word>(words: &[u64]) -> Result<usize, FileCause>
+    requires { length words.now ≤ most_quarters }
+    ensures { result ≡ sized (all fits_number (map W.sent_for words.now)) (map W.sent_for words.now) }
 {
     let mut size = 0;
-    let mut i = 0;
-    while i < n {
-        let field = fields[i];
-        if field >= LIMIT {
-            return Sized::TooLarge;
-        }
-        size += number_size(field);
-        i += 1;
-    }
-    Sized::Bytes(size)
-}
-
-// How many bytes the energies of a series take.
-fn size_series(series: &[u64]) -> Sized
-    requires { length series.now ≤ most_quarters }
-    ensures { result ≡ sized (all fits_number (map sent (map signed series.now))) (map sent (map signed series.now)) }
-{
-    let mut size = 0;
-    let mut i = 0;
-    while i < series.len() {
-        let number = energy::sent_of(WattHours(series[i]));
+    for word in words {
+        let number = W::number_of(*word);
         if number >= LIMIT {
-            return Sized::TooLarge;
+            return Err(FileCause::TooLarge);
         }
         size += number_size(number);
-        i += 1;
     }
-    Sized::Bytes(size)
+    Ok(size)
 }
 
 // How many bytes follow the fields of a kind.
-fn size_tail(kind: u64, series: &[u64]) -> Sized
+fn size_tail(kind: u64, series: &[u64]) -> Result<usize, FileCause>
     ensures { result ≡ sized (tail_small (energies_for kind series.now)) (tail_of kind (energies_for kind series.now)) }
 {
     if kind != call::SUBMISSION {
-        return Sized::Bytes(0);
+        return Ok(0);
     }
     let n = series.len() as u64;
     if limits::QUARTERS < n {
-        return Sized::TooLarge;
+        return Err(FileCause::TooLarge);
     }
-    match size_series(series) {
-        Sized::Bytes(size) => Sized::Bytes(number_size(n) + size),
-        Sized::TooLarge => Sized::TooLarge,
-    }
+    let size = words_size::<Energy>(series)?;
+    Ok(number_size(n) + size)
 }
 
 // How many bytes the call takes.
-fn size_call(kind: u64, fields: &[u64], series: &[u64]) -> Sized
+fn size_call(kind: u64, fields: &[u64], series: &[u64]) -> Result<usize, FileCause>
     requires { (is_kind kind ≡ true) × (length fields.now ≡ most_fields) }
     ensures { result ≡ sized (small (handed kind fields.now series.now)) (numbers_of (handed kind fields.now series.now)) }
 {
-    match size_fields(fields, call::fields_of(kind)) {
-        Sized::Bytes(head) => match size_tail(kind, series) {
-            Sized::Bytes(tail) => Sized::Bytes(number_size(kind) + head + tail),
-            Sized::TooLarge => Sized::TooLarge,
-        },
-        Sized::TooLarge => Sized::TooLarge,
-    }
+    let head = words_size::<Field>(&fields[..call::fields_of(kind)])?;
+    let tail = size_tail(kind, series)?;
+    Ok(number_size(kind) + head + tail)
 }
 
-// The first n fields from an index on; the index behind them.
-fn put_fields(fields: &[u64], n: usize, output: &mut [u8], at: usize) -> usize
-    requires { (n ≤ length fields.now) × (all fits_number (take n fields.now) ≡ true) × (at + length (encode_all (take n fields.now)) ≤ length output.old) }
-    ensures { (result ≡ at + length (encode_all (take n fields.now))) × (output.new ≡ put_in output.old at (encode_all (take n fields.now))) }
+// The bytes of words from an index on; the index behind them.
+fn put_words<W: Word>(words: &[u64], output: &mut [u8], at: usize) -> usize
+    requires { (all fits_number (map W.sent_for words.now) ≡ true) × (at + length (encode_all (map W.sent_for words.now)) ≤ length output.old) }
+    ensures { (result ≡ at + length (encode_all (map W.sent_for words.now))) × (output.new ≡ put_in output.old at (encode_all (map W.sent_for words.now))) }
 {
-    let mut j = at;
-    let mut i = 0;
-    while i < n {
-        j = put_number(output, j, fields[i]);
-        i += 1;
+    let mut next = at;
+    for word in words {
+        next = put_number(output, next, W::number_of(*word));
     }
-    j
-}
-
-// The energies of a series from an index on; the index behind them.
-fn put_series(series: &[u64], output: &mut [u8], at: usize) -> usize
-    requires { (all fits_number (map sent (map signed series.now)) ≡ true) × (at + length (encode_all (map sent (map signed series.now))) ≤ length output.old) }
-    ensures { (result ≡ at + length (encode_all (map sent (map signed series.now)))) × (output.new ≡ put_in output.old at (encode_all (map sent (map signed series.now)))) }
-{
-    let mut j = at;
-    let mut i = 0;
-    while i < series.len() {
-        j = put_number(output, j, energy::sent_of(WattHours(series[i])));
-        i += 1;
-    }
-    j
+    next
 }
 
 // What follows the fields of a kind, from an index on; the index behind it.
@@ -175,7 +136,7 @@ fn put_tail(kind: u64, series: &[u64], output: &mut [u8], at: usize) -> usize
         return at;
     }
     let from = put_number(output, at, series.len() as u64);
-    put_series(series, output, from)
+    put_words::<Energy>(series, output, from)
 }
 
 // The call from the output's start on; its length.
@@ -184,35 +145,31 @@ fn put_call(kind: u64, fields: &[u64], series: &[u64], output: &mut [u8]) -> usi
     ensures { (result ≡ length (print (handed kind fields.now series.now))) × (output.new ≡ put_in output.old 0 (print (handed kind fields.now series.now))) }
 {
     let head = put_number(output, 0, kind);
-    let tail = put_fields(fields, call::fields_of(kind), output, head);
+    let tail = put_words::<Field>(&fields[..call::fields_of(kind)], output, head);
     put_tail(kind, series, output, tail)
 }
 
-fn refused(cause: FileCause) -> Written
-    ensures { result ≡ not_written cause }
+fn refused(cause: FileCause) -> FileRefusal
+    ensures { Err result ≡ not_written cause }
 {
-    Written::Refused { cause, offset: 0 }
+    FileRefusal { cause, offset: 0 }
 }
 
-// The call's bytes to the output's start: their count, or why nothing is written.
+// The call's bytes to the output's start: their count, or why nothing is written, with the offset 0.
 pub fn write_call(
     kind: u64,
     fields: [u64; MOST_FIELDS],
     series: &[u64],
     output: &mut [u8],
-) -> Written
+) -> Result<usize, FileRefusal>
     ensures { (result ≡ written_in (length output.old) (handed kind fields series.now)) × (output.new ≡ output_after result (handed kind fields series.now) output.old) }
 {
     if !call::kind_ok(kind) {
-        return refused(FileCause::BadKind);
+        return Err(refused(FileCause::BadKind));
     }
-    match size_call(kind, &fields, series) {
-        Sized::Bytes(size) => {
-            if output.len() < size {
-                return refused(FileCause::NoRoom);
-            }
-            Written::Length(put_call(kind, &fields, series, output))
-        }
-        Sized::TooLarge => refused(FileCause::TooLarge),
+    let size = size_call(kind, &fields, series).map_err(refused)?;
+    if output.len() < size {
+        return Err(refused(FileCause::NoRoom));
     }
+    Ok(put_call(kind, &fields, series, output))
 }

@@ -1,10 +1,6 @@
 -- `read_fields` meets its contract: the fields that were read, and 0 behind them. Assumes nothing.
-use Prim.Native.Nat.{◌-◌}
 use Rattle.reader.proofs.Filling.{Filling}
 use Rattle.reader.proofs.read_fields.Given as goal
 
 abbrev pub invariant-loop-i : goal.invariant-loop-i
-invariant-loop-i l = Filling l.file l.at l.n l.fields l.j l.i
-
-abbrev pub decreases-loop-i : goal.decreases-loop-i
-decreases-loop-i l = l.n - l.i
+invariant-loop-i l = Filling l.file l.at l.n l.fields l.next l.i

@@ -9,10 +9,10 @@ pub bounds-output-j : goal.bounds-output-j
 bounds-output-j c = in-out c.loop-left.invariant c.requires.1
 
 pub loop-left-preserved : goal.loop-left-preserved
-loop-left-preserved c = put-more c.loop-left.invariant c.requires.1 c.low_byte.ensures c.loop-left-test.true
+loop-left-preserved c = put-more c.loop-left.invariant c.requires.1 c.loop-left-test.true
 
 pub bounds-output-j-2 : goal.bounds-output-j-2
 bounds-output-j-2 c = in-out c.loop-left.invariant c.requires.1
 
 pub returns : goal.returns
-returns c = put-last c.loop-left.invariant c.requires.1 c.low_byte-2.ensures c.loop-left-test.false
+returns c = put-last c.loop-left.invariant c.requires.1 c.loop-left-test.false

@@ -1,23 +1,16 @@
--- `move_delta` meets its contract. Assumes nothing.
-use mathlib.Core.Path.{sym}
+-- `move_delta` meets its contract: the area's old delta group in each run is a group. Assumes nothing.
 use Rattle.state.proofs.Bounds.{deltas-in}
-use Rattle.model.specs.Step.{moved}
 use Rattle.model.proofs.SeriesTable.{group-small}
-use borrow.Author.Rules.{rules}
 use Rattle.amend.proofs.delta.move_delta.Goals as goal
 
-pub move_first-requires : goal.move_first-requires
-move_first-requires c =
-    let s = c in
-    let gs = s.args.groups in
-    record { book_in = s.requires.book_in; area_le_areas = (s.requires.area_le_areas.0, group-small gs.first (deltas-in gs s.requires.area_le_areas.2 1) s.args.area, s.requires.area_le_areas.1) }
+pub move_run-requires-clause-area_le_areas : goal.move_run-requires-clause-area_le_areas
+move_run-requires-clause-area_le_areas c =
+    let gs = c.args.groups in
+    let r = c.requires.area_le_areas in
+    (r.0, group-small gs.first (deltas-in gs r.2 1) c.args.area, r.1)
 
-pub move_run-requires : goal.move_run-requires
-move_run-requires c =
-    let s = c in
-    let gs = s.args.groups in
-    record { book_in = search rules; area_le_areas = (s.requires.area_le_areas.0, group-small gs.second (deltas-in gs s.requires.area_le_areas.2 2) s.args.area, s.requires.area_le_areas.1) }
-
-pub returns : goal.returns
-unfolding moved
-returns c = rw (sym c.move_first.ensures) c.move_run.ensures
+pub move_run-requires-2-clause-area_le_areas : goal.move_run-requires-2-clause-area_le_areas
+move_run-requires-2-clause-area_le_areas c =
+    let gs = c.args.groups in
+    let r = c.requires.area_le_areas in
+    (r.0, group-small gs.second (deltas-in gs r.2 2) c.args.area, r.1)

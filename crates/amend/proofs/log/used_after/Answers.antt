@@ -8,8 +8,8 @@ returns-in_default c = rw c.in_default.is
 
 pub overflow_add-result : goal.overflow_add-result
 overflow_add-result c =
-    let h : c.args.used + 1 < 2 ^ 64 = rw c.in-Row.is at c.requires in
+    let h : c.args.used + 1 < 2 ^ 64 = rw c.in-Some.is at c.requires in
     omega arith
 
 pub returns : goal.returns
-returns c = rw c.in-Row.is
+returns c = rw c.in-Some.is

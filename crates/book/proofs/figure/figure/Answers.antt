@@ -1,46 +1,13 @@
 -- `figure` meets its contract. Assumes nothing.
-use mathlib.Core.Path.{sym}
-use native.Mathlib.Omega.{arith}
-use borrow.Author.Tests.{eq-eqb, ne_eqb}
-use lib.ListN.{length}
+use Rattle.std.proofs.Common.{refl, sym, ◌∙◌}
 use Rattle.book.specs.Bytes.{figure_in}
-use Rattle.book.proofs.Figures.{Found, found}
+use Rattle.book.proofs.Figures.{refused, no-figure}
 use Rattle.book.proofs.figure.figure.Goals as goal
 
-known : (c : goal.Else-figure_refusal-ne0) → Found (length c.args.book.now) c.args.quarters c.args.run c.args.group c.args.quarter
-known c = found _ _ _ _ _ _ c.figure_refusal.ensures c.if-figure_refusal-ne0.false
-
-pub returns-then-figure_refusal-ne0 : goal.returns-then-figure_refusal-ne0
+pub returns-in_err-check-clause-figure : goal.returns-in_err-check-clause-figure
 unfolding figure_in
-returns-then-figure_refusal-ne0 c = rw (sym c.figure_refusal.ensures, ne_eqb _ _ c.if-figure_refusal-ne0.true)
+returns-in_err-check-clause-figure c = no-figure _ c.from_residual.ensures.0 ∙ rw (refused _ c.in_err-check.ensures) refl
 
-pub overflow_sub-row : goal.overflow_sub-row
-overflow_sub-row c = omega (arith, known c)
-
-pub overflow_mul-row : goal.overflow_mul-row
-overflow_mul-row c = omega (arith, known c)
-
-pub overflow_sub-row-2 : goal.overflow_sub-row-2
-overflow_sub-row-2 c = omega (arith, known c)
-
-pub overflow_add-row : goal.overflow_add-row
-overflow_add-row c = omega (arith, known c)
-
-pub overflow_mul-index : goal.overflow_mul-index
-overflow_mul-index c = omega (arith, known c)
-
-pub overflow_sub-index : goal.overflow_sub-index
-overflow_sub-index c = omega (arith, known c)
-
-pub overflow_add-index : goal.overflow_add-index
-overflow_add-index c = omega (arith, known c)
-
-pub overflow_mul-index-2 : goal.overflow_mul-index-2
-overflow_mul-index-2 c = omega (arith, known c)
-
-pub word_at-requires : goal.word_at-requires
-word_at-requires c = omega (arith, known c)
-
-pub returns : goal.returns
+pub returns-clause-figure : goal.returns-clause-figure
 unfolding figure_in
-returns c = rw (sym c.figure_refusal.ensures, eq-eqb _ _ c.if-figure_refusal-ne0.false) c.word_at.ensures
+returns-clause-figure c = rw (sym c.in_ok-check.ensures, sym c.row_start-start.ensures) c.word_at.ensures

@@ -1,15 +1,12 @@
 -- `day_for` meets its contract. Assumes nothing.
-use mathlib.Core.Path.{sym, ◌∙◌}
+use Rattle.std.proofs.Common.{refl, sym}
 use Rattle.calendar.proofs.Days.{no-such}
-use Rattle.quantity.proofs.Tests.{and-left, and-right}
-use Rattle.workdays.proofs.Lengths.{means-month, means-date}
+use Rattle.calendar.proofs.answers.day_for.Goals.{else-exists-via-then-exists+else-exists-2, else-exists-via-else-exists}
 use Rattle.calendar.proofs.answers.day_for.Goals as goal
 
-pub number_of-requires : goal.number_of-requires
-number_of-requires c = ((means-month c.args.settled).holds (sym c.month_ok.ensures ∙ and-left c.month_ok.result c.date_ok.result c.if-month_ok-date_ok.true), (means-date c.args.date).holds (sym c.date_ok.ensures ∙ and-right c.month_ok.result c.date_ok.result c.if-month_ok-date_ok.true))
-
-pub returns-then-month_ok-date_ok : goal.returns-then-month_ok-date_ok
-returns-then-month_ok-date_ok c = c.number_of.ensures
-
-pub returns : goal.returns
-returns c = sym (no-such c.args.settled c.args.date (rw (sym c.month_ok.ensures, sym c.date_ok.ensures) c.if-month_ok-date_ok.false))
+pub returns-else-exists : goal.returns-else-exists
+returns-else-exists c =
+    elim c.else-exists.branch [
+      | else-exists-via-then-exists+else-exists-2 w ↦ sym (no-such c.args.settled c.args.date _ _ c.exists.ensures w.exists-then-exists.ensures (rw (w.if-exists.true, w.if-exists-2.false)))
+      | else-exists-via-else-exists w ↦ sym (no-such c.args.settled c.args.date _ _ c.exists.ensures refl (rw w.if-exists.false))
+    ]

@@ -13,4 +13,4 @@ bounded i e = (e, subst⁻¹ (λ (n : ℕ). n ≤ 31 * i) e (before-most i))
 
 pub returns : goal.returns
 unfolding entries_from worked off easter_day full_moon weekday days_of days_in leap
-returns c = bounded c.args.i (c.wide.ensures ∙ every-entry c.args.i c.requires)
+returns c = bounded c.args.i (c.from.ensures ∙ every-entry c.args.i c.requires)

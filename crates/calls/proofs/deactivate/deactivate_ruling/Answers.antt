@@ -1,61 +1,33 @@
 -- `deactivate_ruling` meets its contract. Assumes nothing.
-use mathlib.Core.Path.{refl}
-use lib.ListN.{take}
-use Rattle.quantity.specs.Lists.{fold}
-use Rattle.model.specs.Call.{deactivates}
-use Rattle.model.specs.Causes.{rules, first_of}
-use Rattle.model.specs.Step.{refusal_by}
-use Rattle.model.specs.View.{view_of}
-use Rattle.checks.proofs.Deciding.{checked, checked-within, begun}
+use Prim.Native.Nat.{ℕ}
+use mathlib.Core.Path.{◌≡◌, refl}
+use mathlib.Core.Bool.{Bool, true, not, cond}
+use Rattle.std.specs.Prelude.{Ok, Err}
+use lib.Dec.{eqb}
+use borrow.Author.Rules.{rules}
+use Rattle.quantity.specs.Lists.{fold, any}
 use Rattle.state.specs.Desk.{rows_in, versions_in, with_frame}
+use Rattle.state.specs.Valid.{valid_desk}
+use Rattle.state.specs.Version.{is_at}
+use Rattle.state.specs.declared.Desk.{Desk}
 use Rattle.state.proofs.Bounds.{sound}
 use Rattle.state.proofs.Picks.{highest-any}
+use Rattle.model.specs.Causes.{or_if, first_of, asking_versions, Ruling}
+use Rattle.model.specs.declared.Cause.{Cause}
+use Rattle.model.specs.Step.{refusal_by}
+use Rattle.checks.specs.Look.{Looked}
+use Rattle.checks.specs.declared.Look.{Look}
 use Rattle.calls.proofs.deactivate.deactivate_ruling.Goals as goal
 
-pub at_work-v0-requires : goal.at_work-v0-requires
-at_work-v0-requires c = tt
+-- a line below lines that let the call through
+at-last : {v r : Ruling} (t : Bool) (x : Cause) → v ≡ Ok tt → r ≡ cond t (Err x) (Ok tt) → r ≡ or_if v t x
+unfolding or_if
+at-last t x e h = rw e h
 
-pub point_ok-requires : goal.point_ok-requires
-point_ok-requires c = tt
-
-pub day_ok-requires : goal.day_ok-requires
-day_ok-requires c = tt
-
-pub or_if-v1-requires : goal.or_if-v1-requires
-or_if-v1-requires c = tt
-
-pub or_if-v2-requires : goal.or_if-v2-requires
-or_if-v2-requires c = tt
-
-pub or_if-v3-requires : goal.or_if-v3-requires
-or_if-v3-requires c = tt
-
-pub is_active-requires : goal.is_active-requires
-is_active-requires c = tt
-
-pub or_if-v4-requires : goal.or_if-v4-requires
-or_if-v4-requires c = tt
-
-pub or_if-requires : goal.or_if-requires
-or_if-requires c = tt
+-- a point has a version where its highest is not 0
+has-version : (d : Desk) (p : ℕ) (l : Look) → Looked d (asking_versions p 0) l → valid_desk d ≡ true → not (eqb l.survey.highest.0 0) ≡ any (is_at p) (versions_in d)
+has-version d p l k v = rw (k.survey refl).highest (highest-any p (rows_in d.frame.opening) (versions_in d) (sound d v).versions)
 
 pub returns : goal.returns
-unfolding refusal_by first_of fold
-returns c e k n =
-    let c3 = c in
-    let c1 = c3 in
-    let o = c1 in
-    let s = o in
-    let d = with_frame e s.args.frame in
-    let above = take 5 (rules (view_of d) n (deactivates s.args.point.0 s.args.day.0)) in
-    checked-within d above _ c.or_if.ensures
-    (checked _ c.or_if-v4.ensures
-    (checked _ c3.or_if-v3.ensures
-    (checked _ c3.or_if-v2.ensures
-    (checked _ c1.or_if-v1.ensures
-    (begun _ o.at_work-v0.ensures k.valid)
-    (rw (c1.point_ok.ensures, c1.day_ok.ensures)))
-    refl)
-    refl)
-    (rw (c.is_active.ensures, k.here)))
-    (λ v. rw (k.survey refl).highest (highest-any s.args.point.0 (rows_in d.frame.opening) (versions_in d) (sound d v).versions))
+unfolding refusal_by first_of fold or_if
+returns c e k n = let d = with_frame e c.args.frame in at-last _ _ (search rules) (rw (← has-version d c.args.point.0 c.args.l k (search rules)) c.refuse_if-5.ensures)

@@ -5,16 +5,13 @@ use Rattle.checks.proofs.Deciding.{allowed, no_lengths, decides-refused, decides
 use borrow.Author.Tests.{not-false}
 use Rattle.calls.proofs.issue.decide_issue.Goals as goal
 
-pub issue_ruling-v-requires : goal.issue_ruling-v-requires
-issue_ruling-v-requires c = tt
+pub returns-in-Err : goal.returns-in-Err
+returns-in-Err c e k = decides-refused _ _ (c.issue_ruling.ensures e k) c.in-Err.is c.refuse.ensures
 
-pub returns-in-Refuse : goal.returns-in-Refuse
-returns-in-Refuse c e k = decides-refused _ _ (c.issue_ruling-v.ensures e k) c.in-Refuse.is c.refuse.ensures
-
-pub returns-in-Fine : goal.returns-in-Fine
-returns-in-Fine c e k =
+pub returns-in-Ok : goal.returns-in-Ok
+returns-in-Ok c e k =
     let d = with_frame e c.args.frame in
-    let r = c.issue_ruling-v.ensures e k in
-    let fine = c.in-Fine.is in
+    let r = c.issue_ruling.ensures e k in
+    let fine = c.in-Ok.is in
     let v = not-false _ (allowed _ _ (sym (r no_lengths) ∙ fine)).0 in
     decides-granted d _ r fine c.accept.ensures (c.issue_run.ensures d refl v) (λ s. refl)

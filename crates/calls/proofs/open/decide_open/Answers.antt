@@ -7,21 +7,21 @@ use Rattle.state.specs.Desk.{with_frame}
 use Rattle.checks.proofs.Deciding.{allowed, opens-lengths, unmoved, whole-refused, whole-granted}
 use Rattle.calls.proofs.open.decide_open.Goals as goal
 
-pub returns-in-Refuse : goal.returns-in-Refuse
-returns-in-Refuse c e =
+pub returns-in-Err : goal.returns-in-Err
+returns-in-Err c e =
     let u = unmoved (with_frame e c.args.frame) c.refuse.ensures in
-    (u.0, whole-refused _ _ _ (c.open_ruling-v.ensures e) c.in-Refuse.is u.1)
+    (u.0, whole-refused _ _ _ (c.open_ruling.ensures e) c.in-Err.is u.1)
 
-pub returns-in-Fine : goal.returns-in-Fine
-returns-in-Fine c d =
+pub returns-in-Ok : goal.returns-in-Ok
+returns-in-Ok c d =
     let k = c.accept.ensures in
     let a = c.args in
-    let v = c.open_ruling-v.ensures d in
-    let e = c.in-Fine.is in
+    let v = c.open_ruling.ensures d in
+    let e = c.in-Ok.is in
     let h = allowed _ _ (sym v ∙ e) in
     let n = opens-lengths _ _ (not-false _ h.1.1.0) in
     let book = c.clear.ensures ∙ ap (λ (n : ℕ). replicate n 0) n.0 in
-    let schedules = c.clear-in-Fine.ensures ∙ ap (λ (n : ℕ). replicate n 0) n.1 in
+    let schedules = c.clear-in-Ok.ensures ∙ ap (λ (n : ℕ). replicate n 0) n.1 in
     let p = c.open_desk.ensures (with_frame d a.frame) h.1.0 in (
       rw k.1 p.0,
       whole-granted _ _ _ v e

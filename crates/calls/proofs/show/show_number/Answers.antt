@@ -5,8 +5,8 @@ use Rattle.model.specs.Step.{Outcome}
 use Rattle.checks.proofs.Deciding.{refused, granted}
 use Rattle.calls.proofs.show.show_number.Goals as goal
 
-pub returns-in-Refuse : goal.returns-in-Refuse
-returns-in-Refuse c s = ap (λ (o : Outcome). o.answer) (sym (refused _ _ _ (c.show_ruling-v.ensures (lengths_of s)) c.in-Refuse.is))
+pub returns-in-Err : goal.returns-in-Err
+returns-in-Err c s = ap (λ (o : Outcome). o.answer) (sym (refused _ _ _ (c.show_ruling.ensures (lengths_of s)) c.in-Err.is))
 
-pub returns-in-Fine : goal.returns-in-Fine
-returns-in-Fine c s = ap (λ (o : Outcome). o.answer) (sym (granted _ _ _ (c.show_ruling-v.ensures (lengths_of s)) c.in-Fine.is))
+pub returns-in-Ok : goal.returns-in-Ok
+returns-in-Ok c s = ap (λ (o : Outcome). o.answer) (sym (granted _ _ _ (c.show_ruling.ensures (lengths_of s)) c.in-Ok.is))

@@ -11,17 +11,14 @@ use Rattle.calls.proofs.status.status.Goals as goal
 seen : (c : After-look-l) → Looked c.args.d (asking_versions c.args.point.0 c.args.version.0) c.look-l.result
 seen c = rw c.asking_versions.ensures at c.look-l.ensures
 
-pub status_ruling-v-requires : goal.status_ruling-v-requires
-status_ruling-v-requires c = tt
-
-pub returns-in-Refuse : goal.returns-in-Refuse
-returns-in-Refuse c s =
+pub returns-in-Err : goal.returns-in-Err
+returns-in-Err c s =
     let r = c in
-    answer-refused _ _ s (r.status_ruling-v.ensures r.args.d (seen (goal.at.returns-in-Refuse c).After-look-l) (lengths_of s)) c.in-Refuse.is (refl, refl)
+    answer-refused _ _ s (r.status_ruling.ensures r.args.d (seen (goal.at.returns-in-Err c).After-look-l) (lengths_of s)) c.in-Err.is (refl, refl)
 
-pub returns-in-Fine : goal.returns-in-Fine
-returns-in-Fine c s =
+pub returns-in-Ok : goal.returns-in-Ok
+returns-in-Ok c s =
     let r = c in
-    let l = seen (goal.at.returns-in-Fine c).After-look-l in
-    answer-granted _ _ s (r.status_ruling-v.ensures r.args.d l (lengths_of s)) c.in-Fine.is
+    let l = seen (goal.at.returns-in-Ok c).After-look-l in
+    answer-granted _ _ s (r.status_ruling.ensures r.args.d l (lengths_of s)) c.in-Ok.is
     (record { answered = rw (c.status_answer-answer.ensures, (l.survey refl).held); held = refl })

@@ -2,10 +2,10 @@
 use Rattle.model.specs.Step.{status_answer}
 use Rattle.calls.proofs.status.status_answer.Goals as goal
 
-pub returns-in-Absent : goal.returns-in-Absent
+pub returns-in-None : goal.returns-in-None
 unfolding status_answer
-returns-in-Absent c = rw c.in-Absent.is
+returns-in-None c = rw c.in-None.is
 
-pub returns-in-Has : goal.returns-in-Has
+pub returns-in-Some : goal.returns-in-Some
 unfolding status_answer
-returns-in-Has c = rw c.in-Has.is
+returns-in-Some c = rw c.in-Some.is

@@ -1,20 +1,17 @@
 -- `groups_ok` meets its contract. The loop's invariant: the flag is the test of the groups passed. Assumes nothing.
-use native.Mathlib.Omega.{arith}
-use mathlib.Core.Path.{ap, ◌∙◌}
+use Rattle.std.proofs.Common.{ap, ◌∙◌, rules}
 use lib.Seq.{take_all}
-use borrow.Author.Rules.{rules}
 use Rattle.quantity.specs.Limits.{group_ok}
 use Rattle.quantity.specs.Lists.{all}
-use Rattle.quantity.proofs.Lists.{length-of, all-none, all-more}
+use Rattle.quantity.proofs.Lists.{all-none, all-more}
 use Rattle.checks.proofs.limits.groups_ok.Goals as goal
 
-pub loop-i-init : goal.loop-i-init
-loop-i-init c = (omega arith, search (rules, length-of), all-none group_ok c.args.groups)
+pub loop-group-init : goal.loop-group-init
+loop-group-init c = all-none group_ok c.args.groups
 
-pub loop-i-preserved : goal.loop-i-preserved
-loop-i-preserved c = let s = c in
-    (omega arith, s.loop-i.invariant.1, rw (← all-more group_ok s.args.groups s.loop-i.i 0 (omega arith), ← s.loop-i.invariant.2, c.group_ok-ok.ensures))
+pub loop-group-preserved : goal.loop-group-preserved
+loop-group-preserved c =
+    let e = all-more group_ok c.args.groups c.loop-group.group-index 0 (search rules) in cc
 
 pub returns : goal.returns
-returns c = let s = c in
-    s.loop-i.invariant.2 ∙ ap (all group_ok) (take_all s.loop-i.i s.args.groups (omega arith))
+returns c = c.loop-group.invariant ∙ ap (all group_ok) (take_all c.loop-group.group-index c.args.groups (search rules))

@@ -1,30 +1,20 @@
 -- `has_series` meets its contract. The loop's invariant: the flag is the test of the points passed. Assumes nothing.
-use native.Mathlib.Omega.{arith}
-use Prim.Native.Nat.{◌<◌}
-use mathlib.Core.Path.{◌≡◌}
-use lib.ListN.{length, take}
+use Rattle.std.proofs.Common.{ap, ◌∙◌, rules}
 use lib.Seq.{take_all}
-use borrow.Author.Rules.{rules}
-use Rattle.quantity.proofs.Lists.{length-of, any-none, any-more}
+use Rattle.quantity.specs.Lists.{any}
+use Rattle.quantity.proofs.Lists.{any-none, any-more}
 use Rattle.state.specs.Point.{free_point, has_series}
 use Rattle.checks.proofs.points.has_series.Goals as goal
 
-pub loop-i-init : goal.loop-i-init
-loop-i-init c =
-    let a = c.args in
-    (omega arith, search (rules, length-of), any-none (has_series a.kind a.area a.partner) a.points)
+pub loop-p-init : goal.loop-p-init
+loop-p-init c = let a = c.args in any-none (has_series a.kind a.area a.partner) a.points
 
-pub loop-i-preserved : goal.loop-i-preserved
-loop-i-preserved c =
-    let s = c in
-    let a = s.args in
-    let l = s.loop-i in
-    let k : l.i < length a.points = omega arith in
-    (omega arith, l.invariant.1, rw (← any-more (has_series a.kind a.area a.partner) a.points l.i free_point k, ← l.invariant.2, c.is_series-taken.ensures))
+pub loop-p-preserved : goal.loop-p-preserved
+loop-p-preserved c =
+    let a = c.args in
+    let e = any-more (has_series a.kind a.area a.partner) a.points c.loop-p.p-index free_point (search rules) in cc
 
 pub returns : goal.returns
 returns c =
-    let s = c in
-    let a = s.args in
-    let e : take s.loop-i.i a.points ≡ a.points = take_all s.loop-i.i a.points (omega arith) in
-    rw e at s.loop-i.invariant.2
+    let a = c.args in
+    c.loop-p.invariant ∙ ap (any (has_series a.kind a.area a.partner)) (take_all c.loop-p.p-index a.points (search rules))

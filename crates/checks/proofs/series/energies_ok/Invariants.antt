@@ -1,8 +1,5 @@
--- `energies_ok` meets its contract. Assumes nothing.
-use mathlib.Core.Path.{◌≡◌}
-use mathlib.Core.Bool.{Bool}
-use Prim.Native.Nat.{ℕ, ◌-◌, ◌≤◌}
-use lib.ListN.{length, take}
+-- `energies_ok` meets its contract. The loop's invariant: the flag is the test of the energies passed. Assumes nothing.
+use Rattle.std.proofs.Common.{◌≡◌, ℕ, Bool, take}
 use Rattle.quantity.specs.Limits.{energy_ok}
 use Rattle.quantity.specs.Lists.{all}
 use Rattle.quantity.specs.Word.{signed}
@@ -12,8 +9,5 @@ use Rattle.checks.proofs.series.energies_ok.Given as goal
 abbrev pub energy_word : ℕ → Bool
 energy_word w = energy_ok (signed w)
 
-abbrev pub invariant-loop-i : goal.invariant-loop-i
-invariant-loop-i l = (l.i ≤ length l.series) × (l.ok ≡ all energy_word (take l.i l.series))
-
-abbrev pub decreases-loop-i : goal.decreases-loop-i
-decreases-loop-i l = length l.series - l.i
+abbrev pub invariant-loop-energy : goal.invariant-loop-energy
+invariant-loop-energy l = l.ok ≡ all energy_word (take l.energy-index l.series)

@@ -9,7 +9,7 @@ use Rattle.checks.proofs.stores.log_full.Goals as goal
 pub returns : goal.returns
 returns c =
     let a = c.args in
-    rw c.in-Row.is
+    rw c.in-Some.is
     (same-test (ltb (a.log - 4 * a.used) 4) (ltb a.log (4 * (a.used + 1)))
     (λ t. lt-ltb a.log (4 * (a.used + 1)) (omega (arith, ltb-true (a.log - 4 * a.used) 4 t)))
     (λ t. lt-ltb (a.log - 4 * a.used) 4 (omega (arith, ltb-true a.log (4 * (a.used + 1)) t))))

@@ -5,4 +5,4 @@ use Rattle.model.specs.declared.Asks.{Asks}
 use Rattle.dispatch.proofs.asks.place_in.Goals as goal
 
 pub returns : goal.returns
-returns c gs es = c.place_of.ensures ∙ ap (λ (x : Asks). place_of x.point.0) (c.asks_of-asks.ensures gs es)
+returns c gs es = c.place_of.ensures ∙ ap (λ (x : Asks). place_of x.point.0) (c.asks_of.ensures gs es)

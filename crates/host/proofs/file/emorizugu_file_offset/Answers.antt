@@ -3,8 +3,8 @@ use mathlib.Core.Path.{sym, ap, ◌∙◌}
 use Rattle.message.specs.File.{offset_of}
 use Rattle.host.proofs.file.emorizugu_file_offset.Goals as goal
 
-pub returns-in-Whole : goal.returns-in-Whole
-returns-in-Whole c = ap offset_of (sym c.in-Whole.is ∙ c.check_file.ensures)
+pub returns-in-Ok : goal.returns-in-Ok
+returns-in-Ok c = ap offset_of (sym c.in-Ok.is ∙ c.check_file.ensures)
 
-pub returns-in-Refused : goal.returns-in-Refused
-returns-in-Refused c = ap offset_of (sym c.in-Refused.is ∙ c.check_file.ensures)
+pub returns-in-Err : goal.returns-in-Err
+returns-in-Err c = ap offset_of (sym c.in-Err.is ∙ c.check_file.ensures)

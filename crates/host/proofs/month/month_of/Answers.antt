@@ -15,5 +15,5 @@ sum_from-requires c =
 pub returns-then-row_ok : goal.returns-then-row_ok
 returns-then-row_ok c = let a = c.args in month-there a.quarters a.run a.row c.row_ok.ensures c.if-row_ok.true a.book.now c.row_start-start.ensures c.sum_from.ensures
 
-pub returns : goal.returns
-returns c = let a = c.args in month-none a.quarters a.run a.row c.row_ok.ensures a.book.now c.if-row_ok.false
+pub returns-else-row_ok : goal.returns-else-row_ok
+returns-else-row_ok c = let a = c.args in month-none a.quarters a.run a.row c.row_ok.ensures a.book.now c.if-row_ok.false

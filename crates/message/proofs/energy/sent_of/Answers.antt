@@ -3,8 +3,8 @@ use borrow.Author.Rules.{rules}
 use Rattle.message.proofs.Energies.{sent-up, sent-down}
 use Rattle.message.proofs.energy.sent_of.Goals as goal
 
-pub returns-then-w-lt-NEGATIVE : goal.returns-then-w-lt-NEGATIVE
-returns-then-w-lt-NEGATIVE c = sent-up _ c.if-w-lt-NEGATIVE.true
+pub returns-then-is_negative : goal.returns-then-is_negative
+returns-then-is_negative c = sent-down _ (search rules) (search rules)
 
-pub returns-else-w-lt-NEGATIVE : goal.returns-else-w-lt-NEGATIVE
-returns-else-w-lt-NEGATIVE c = sent-down _ c.if-w-lt-NEGATIVE.false (search rules)
+pub returns-else-is_negative : goal.returns-else-is_negative
+returns-else-is_negative c = sent-up _ (search rules)

@@ -2,11 +2,11 @@
 use mathlib.Core.Path.{sym, ◌∙◌}
 use lib.ListN.{length, drop}
 use Rattle.message.specs.Number.{decode}
-use Rattle.message.proofs.NumberSteps.{not-refused}
+use Rattle.message.proofs.NumberSteps.{is-there}
 use Rattle.message.proofs.number.known_long.Goals as goal
 
-pub returns-in-Number : goal.returns-in-Number
-returns-in-Number c = sym c.in-Number.is ∙ c.read_number.ensures
+pub unwrap-requires : goal.unwrap-requires
+unwrap-requires c = rw c.read_number.ensures (is-there (length c.args.file.now) (decode (drop c.args.at c.args.file.now)) c.requires)
 
-pub returns-in-Refused : goal.returns-in-Refused
-returns-in-Refused c = absurd (not-refused (length c.args.file.now) (decode (drop c.args.at c.args.file.now)) c.requires (sym c.in-Refused.is ∙ c.read_number.ensures))
+pub returns : goal.returns
+returns c = sym c.unwrap.ensures ∙ c.read_number.ensures

@@ -26,7 +26,7 @@ pub loop-i-preserved : goal.loop-i-preserved
 loop-i-preserved c =
     let l = c.loop-i in
     let e = c.pass_block-block.ensures in
-    (search rules, search rules, search rules, blocks-on (omega arith) l.invariant.3 (omega arith) (omega arith) (sym e.0 ∙ not-false _ c.if-not-block.false) (c.size_of.ensures ∙ e.1))
+    (search rules, search rules, search rules, blocks-on (omega arith) l.invariant.3 (omega arith) (omega arith) (sym e.0 ∙ not-false _ c.if-not-block.false) (c.from.ensures ∙ e.1))
 
 pub returns : goal.returns
 returns c = reaches c.loop-i.invariant.3 c.begin_of-2.ensures

@@ -5,8 +5,5 @@ use lib.ListN.{length}
 use Rattle.message.proofs.Passing.{Passing}
 use Rattle.message.proofs.pass.pass_inside.Given as goal
 
-abbrev pub invariant-loop-i : goal.invariant-loop-i
-invariant-loop-i l = (vs : List ℕ) × Passing l.file l.at l.n l.j l.i vs × (l.j + 16 * (l.n - l.i) ≤ length l.file)
-
-abbrev pub decreases-loop-i : goal.decreases-loop-i
-decreases-loop-i l = l.n - l.i
+abbrev pub invariant-loop : goal.invariant-loop
+invariant-loop l = (vs : List ℕ) × Passing l.file l.at l.n l.j l.counter vs × (l.j + 16 * (l.n - l.counter) ≤ length l.file)

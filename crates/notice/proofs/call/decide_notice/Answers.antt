@@ -4,6 +4,7 @@ use mathlib.Core.Bool.{true}
 use mathlib.Core.List.{List}
 use Prim.Native.Nat.{ℕ}
 use borrow.Author.Tests.{not-false, not-true}
+use Rattle.std.specs.Prelude.{Option}
 use Rattle.state.specs.Desk.{versions_in, with_frame}
 use Rattle.state.specs.Valid.{valid_desk}
 use Rattle.quantity.specs.declared.Day.{Day}
@@ -16,7 +17,7 @@ use Rattle.state.proofs.Bounds.{sound}
 use Rattle.model.specs.Call.{notices, lengths_of, told}
 use Rattle.model.specs.Causes.{asking_versions}
 use Rattle.model.specs.Log.{turn_of, due_by, due}
-use Rattle.model.specs.declared.Due.{Due}
+use Rattle.model.specs.declared.LogRow.{LogRow}
 use Rattle.model.specs.declared.Turn.{Turn}
 use Rattle.checks.specs.declared.Look.{Look as TheLook}
 use Rattle.checks.specs.Look.{Looked}
@@ -39,7 +40,7 @@ module _ (f : Frame) (point : PointNo) (version : Version) (verdict : ℕ) (day 
   turn-is : (r : Turn) → r ≡ turn_by f verdict day.0 l.survey → r ≡ turn_of (versions_in (with_frame d f)) after point.0
   turn-is r h = h ∙ turned (with_frame d f) point.0 version.0 verdict day.0 l.survey (looked.survey refl)
 
-  due-is : (r : Turn) (u : Due) → r ≡ turn_by f verdict day.0 l.survey → u ≡ due_by r point.0 day.0
+  due-is : (r : Turn) (u : Option LogRow) → r ≡ turn_by f verdict day.0 l.survey → u ≡ due_by r point.0 day.0
       → u ≡ due (versions_in (with_frame d f)) after point.0 day.0
   unfolding due
   due-is r u h g = g ∙ ap (λ (x : Turn). due_by x point.0 day.0) (turn-is r h)
@@ -57,8 +58,8 @@ returns-then-not-l c d looked =
           all-refused e call stores refl (unfit e (told (lent call stores)) refl (sym looked.valid ∙ not-true _ c.if-not-l.true)) u.1,
     )
 
-pub notice_ruling-decided-requires : goal.notice_ruling-decided-requires
-notice_ruling-decided-requires c =
+pub notice_ruling-requires : goal.notice_ruling-requires
+notice_ruling-requires c =
     let s = c in
     (sound (with_frame s.requires.desk c.args.f) (valid c.args.f c.args.point c.args.version c.args.verdict c.args.day c.args.l s.requires.desk s.requires.looked (not-false _ c.if-not-l.false))).used
 
@@ -71,23 +72,23 @@ notice_granted-requires c =
     let e = with_frame d c.args.f in
     let owed = due-is c.args.f c.args.point c.args.version c.args.verdict c.args.day c.args.l d looked _ _ c.notice_turn-turn.ensures c.due_by-due.ensures in
     notice-allowed e a.point.0 a.version.0 a.verdict a.day.0 a.values.now a.book.now a.log.now _ _ _ (sound e (valid c.args.f c.args.point c.args.version c.args.verdict c.args.day c.args.l d looked (not-false _ c.if-not-l.false))) looked.table (looked.survey refl).held (turn-is c.args.f c.args.point c.args.version c.args.verdict c.args.day c.args.l d looked _ c.notice_turn-turn.ensures) owed looked.here
-    (sym (c.notice_ruling-decided.ensures d looked owed no_lengths) ∙ c.in-Fine.is)
+    (sym (c.notice_ruling.ensures d looked owed no_lengths) ∙ c.in-Ok.is)
 
-pub returns-in-Refuse : goal.returns-in-Refuse
-returns-in-Refuse c d looked =
+pub returns-in-Err : goal.returns-in-Err
+returns-in-Err c d looked =
     let p = c in
     let a = p.args in
     let e = with_frame d c.args.f in
     let call = notices a.point.0 a.version.0 a.verdict a.day.0 in
-    let u = unmoved e c.refuse-in-Refuse.ensures in (
+    let u = unmoved e c.refuse-in-Err.ensures in (
       u.0,
       λ s.
           let stores = storing s a.values.now a.book.now a.log.now in
-          all-refused e call stores (c.notice_ruling-decided.ensures d looked (due-is c.args.f c.args.point c.args.version c.args.verdict c.args.day c.args.l d looked _ _ c.notice_turn-turn.ensures c.due_by-due.ensures) (lengths_of s) ∙ sym (fit e (told (lent call stores)) refl (valid c.args.f c.args.point c.args.version c.args.verdict c.args.day c.args.l d looked (not-false _ c.if-not-l.false)))) c.in-Refuse.is u.1,
+          all-refused e call stores (c.notice_ruling.ensures d looked (due-is c.args.f c.args.point c.args.version c.args.verdict c.args.day c.args.l d looked _ _ c.notice_turn-turn.ensures c.due_by-due.ensures) (lengths_of s) ∙ sym (fit e (told (lent call stores)) refl (valid c.args.f c.args.point c.args.version c.args.verdict c.args.day c.args.l d looked (not-false _ c.if-not-l.false)))) c.in-Err.is u.1,
     )
 
-pub returns-in-Fine : goal.returns-in-Fine
-returns-in-Fine c d looked =
+pub returns-in-Ok : goal.returns-in-Ok
+returns-in-Ok c d looked =
     let p = c in
     let a = p.args in
     let e = with_frame d c.args.f in
@@ -100,6 +101,6 @@ returns-in-Fine c d looked =
       notice-fits e a.point.0 a.version.0 a.verdict a.day.0 a.values.now a.book.now a.log.now _ _ _ (sound e inside) looked.table (looked.survey refl).held turn owed g,
       λ s.
           let stores = storing s a.values.now a.book.now a.log.now in
-          all-granted e call stores (c.notice_ruling-decided.ensures d looked owed (lengths_of s) ∙ sym (fit e (told (lent call stores)) refl inside)) c.in-Fine.is
+          all-granted e call stores (c.notice_ruling.ensures d looked owed (lengths_of s) ∙ sym (fit e (told (lent call stores)) refl inside)) c.in-Ok.is
           (notice-stepped e a.point.0 a.version.0 a.verdict a.day.0 a.values.now a.book.now a.log.now _ _ _ (sound e inside) looked.table (looked.survey refl).held turn owed s looked.here g),
     )

@@ -1,12 +1,11 @@
 -- `put_month` meets its contract. Assumes nothing.
 use mathlib.Core.Path.{refl}
 use Rattle.text.specs.Text.{each_to}
-use Rattle.text.proofs.Texts.{put-then, put-as}
+use Rattle.text.proofs.Texts.{puts-then, puts-as}
 use Rattle.output.specs.Output.{month_text}
-use borrow.Author.Rules.{rules}
 use borrow.Author.Rules.{rules}
 use Rattle.output.proofs.print.put_month.Goals as goal
 
 pub returns : goal.returns
 unfolding month_text each_to
-returns c = put-as (put-then c.put_run-next.ensures c.put_run.ensures) (search rules) refl
+returns c = puts-as (puts-then c.put_run.ensures c.put_run-2.ensures) (search rules) refl

@@ -1,9 +1,8 @@
 -- `put_quarter` meets its contract. Assumes nothing.
-use Rattle.text.proofs.Texts.{put-then, put-as}
+use Rattle.text.proofs.Texts.{puts-then, puts-as}
 use Rattle.output.specs.Fill.{total_room}
 use Rattle.output.specs.Output.{quarter_text}
 use Rattle.output.proofs.Prints.{total-read}
-use borrow.Author.Rules.{rules}
 use borrow.Author.Rules.{rules}
 use Rattle.output.proofs.print.put_quarter.Goals as goal
 
@@ -11,5 +10,5 @@ pub returns : goal.returns
 unfolding quarter_text
 returns c =
     let a = c.args in
-    put-then c.put_groups-next.ensures
-    (put-as {p = total_room} c.total_line.ensures (search rules) (total-read a.book.now a.quarters _ _ _ c.requires.1 c.requires.0 c.total-sum.ensures))
+    puts-then c.put_groups.ensures
+    (puts-as {p = total_room} c.total_line.ensures (search rules) (total-read a.month.now.book.now a.month.now.quarters _ _ _ a.month.now.summed c.requires.0 c.total-sum.ensures))

@@ -1,6 +1,6 @@
 -- `run_file` meets its contract: what remains of the file, done from here on, gives what the whole gives. Assumes nothing.
 use Prim.Native.Nat.{ℕ, ◌<◌}
-use mathlib.Core.Path.{◌≡◌, refl, ap, ◌∙◌}
+use mathlib.Core.Path.{◌≡◌, refl, sym, ap, ◌∙◌}
 use mathlib.Core.List.{[]}
 use native.Mathlib.Omega.{arith}
 use lib.ListN.{get_or, length-set}
@@ -11,21 +11,14 @@ use Rattle.state.specs.declared.Desk.{Desk}
 use Rattle.state.proofs.Applied.{applied}
 use Rattle.state.proofs.TopVersions.{points-in}
 use Rattle.dispatch.specs.Asked.{asked}
-use Rattle.reader.specs.declared.Reading.{Reading}
+use Rattle.std.specs.Prelude.{Ok}
 use Rattle.model.specs.Causes.{terms}
 use Rattle.checks.specs.Survey.{place_of}
 use Rattle.checks.proofs.Found.{place-in}
 use Rattle.replay.proofs.Reached.{reached-first, within, still-fresh}
-use Rattle.replay.proofs.Runs.{handed-as, going, energies-inside, again, full, unread}
+use Rattle.replay.proofs.Runs.{handed-as, going, energies-inside, again, full, ended, left-off}
 use Rattle.replay.proofs.run.run_file.Goals.{in-Same, in-Fresh, in-Point, in-Version, in-Settled, After-place_in-place, In-Point, In-Version}
 use Rattle.replay.proofs.run.run_file.Goals as goal
-
--- what the reader answered
-step-read : {r q : Reading} → r ≡ q → q.step ≡ r.step
-step-read e = rw e
-
-groups-read : {r q : Reading} → r ≡ q → r.groups ≡ q.groups
-groups-read e = rw e
 
 -- a record is put at a place of its table
 point-place : (c : In-Point) → c.in-Point.at < 256
@@ -39,16 +32,21 @@ inside : (p : ℕ) {n : ℕ} → n ≡ place_of p → n < 256
 inside p e = rw e (place-in p)
 
 record-place : (c : After-place_in-place) → c.place_in-place.result < 256
-record-place c = inside (terms (asked c.in-Call.call [] [])).asks.point.0 (c.place_in-place.ensures [] [])
+record-place c = inside (terms (asked c.in-Ok-Some.read.call [] [])).asks.point.0 (c.place_in-place.ensures [] [])
 
 pub loop-answered-init : goal.loop-answered-init
 loop-answered-init c = rw c.fresh_desk-desk.ensures (going _ _ refl (reached-first _))
 
-pub returns-in_default : goal.returns-in_default
-returns-in_default c =
+pub returns-in-Ok-None : goal.returns-in-Ok-None
+returns-in-Ok-None c =
     let g = c.loop-answered.invariant in
-    rw c.ended_by.ensures
-    (unread g _ (omega (arith, c.loop-answered-test.true, g.sized.answers)) c.in_default.not-Call (step-read c.read_call-reading.ensures.0) c.read_call-reading.ensures.1)
+    ended g (omega (arith, c.loop-answered-test.true, g.sized.answers))
+    (sym c.read_call.ensures.0 ∙ c.in-Ok-None.is ∙ ap Ok c.in-Ok-None.field-0-is) c.read_call.ensures.1
+
+pub returns-in-Err : goal.returns-in-Err
+returns-in-Err c =
+    let g = c.loop-answered.invariant in
+    left-off g (omega (arith, c.loop-answered-test.true, g.sized.answers)) (sym c.read_call.ensures.0 ∙ c.in-Err.is) c.read_call.ensures.1
 
 pub offset_bounds-desk-place : goal.offset_bounds-desk-place
 offset_bounds-desk-place c = let h = record-place (goal.at.offset_bounds-desk-place c).After-place_in-place in omega (arith, h)
@@ -59,7 +57,7 @@ bounds-desk-place c = record-place (goal.at.bounds-desk-place c).After-place_in-
 pub slice_bounds-sent-end : goal.slice_bounds-sent-end
 slice_bounds-sent-end c =
     let read = c in
-    energies-inside c.loop-answered.invariant (step-read read.read_call-reading.ensures.0 ∙ c.in-Call.is) read.read_call-reading.ensures.1
+    energies-inside c.loop-answered.invariant (sym read.read_call.ensures.0 ∙ c.in-Ok-Some.is ∙ ap Ok c.in-Ok-Some.field-0-is) read.read_call.ensures.1
 
 pub lend_call-out-requires : goal.lend_call-out-requires
 lend_call-out-requires c =
@@ -87,7 +85,7 @@ settle_held-requires c =
 pub loop-answered-preserved : goal.loop-answered-preserved
 loop-answered-preserved c =
     let handed = c.lend_call-out in
-    let read = c.read_call-reading in
+    let read = c.read_call in
     let g = c.loop-answered.invariant in
     let d = c.loop-answered.desk in
     let e = handed.result.effect in
@@ -101,7 +99,7 @@ loop-answered-preserved c =
       | in-Version w ↦ rw (w.desk-is, w.in-Version.is) (refl, refl)
       | in-Settled w ↦ rw (w.desk-is, w.settle_held.ensures, w.in-Settled.is) (refl, refl)
     ] in
-    again g (omega (arith, c.loop-answered-test.true, g.sized.answers)) (step-read read.ensures.0 ∙ c.in-Call.is) (groups-read read.ensures.0) read.ensures.1 (handed-as (applied d c.match-tables.desk e tables) handed.ensures.1) c.number_of.ensures
+    again g (omega (arith, c.loop-answered-test.true, g.sized.answers)) (sym read.ensures.0 ∙ c.in-Ok-Some.is ∙ ap Ok c.in-Ok-Some.field-0-is) read.ensures.1 (handed-as (applied d c.match-tables.desk e tables) handed.ensures.1) c.from.ensures
     (record {
       values = handed.auto.values;
       book = handed.auto.book;

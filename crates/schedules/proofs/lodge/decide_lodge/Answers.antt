@@ -12,19 +12,19 @@ lodged-requires c =
     let a = c.args in
     let k =
     lodgeable _ _ _ a.series.now (with_schedules_length no_lengths (length a.schedules.now))
-    (sym (c.lodge_ruling-v.ensures no_lengths) ∙ c.in-Fine.is) in
+    (sym (c.lodge_ruling.ensures no_lengths) ∙ c.in-Ok.is) in
     record { sound = k.0; series_len = k.1.0; schedules_len = k.1.1 }
 
-pub returns-in-Refuse : goal.returns-in-Refuse
-returns-in-Refuse c =
+pub returns-in-Err : goal.returns-in-Err
+returns-in-Err c =
     let u = unmoved _ c.refuse.ensures in
-    (u.0, λ s. schedule-refused _ _ _ (c.lodge_ruling-v.ensures (lengths_of s)) c.in-Refuse.is u.1)
+    (u.0, λ s. schedule-refused _ _ _ (c.lodge_ruling.ensures (lengths_of s)) c.in-Err.is u.1)
 
-pub returns-in-Fine : goal.returns-in-Fine
-returns-in-Fine c =
+pub returns-in-Ok : goal.returns-in-Ok
+returns-in-Ok c =
     let k = c.accept.ensures in
     let e = c.lodged.ensures in (
       rw k.1 e.0,
-      λ s. schedule-granted _ _ _ (c.lodge_ruling-v.ensures (lengths_of s)) c.in-Fine.is
+      λ s. schedule-granted _ _ _ (c.lodge_ruling.ensures (lengths_of s)) c.in-Ok.is
           (rw (k.0, k.1) (e.1 s)),
     )

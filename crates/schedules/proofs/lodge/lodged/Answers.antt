@@ -19,16 +19,13 @@ some c = within-low 1 groups c.args.group c.requires.sound.1
 within : (c : Start) → let q = c.args.d.frame.opening.quarters in schedule_start q c.args.group + q ≤ schedule_rows * q
 within c = planned-within c.args.d.frame.opening.quarters c.args.group (some c) (within-high 1 groups c.args.group c.requires.sound.1)
 
-pub overflow_sub-start : goal.overflow_sub-start
-overflow_sub-start c = omega (arith, some (goal.at.overflow_sub-start c).Start)
-
 pub overflow_mul-start : goal.overflow_mul-start
 overflow_mul-start c = let s = c in omega (arith, within (goal.at.overflow_mul-start c).Start, s.requires.sound.0.most)
 
-pub put_series-requires : goal.put_series-requires
-put_series-requires c =
+pub put_row-requires : goal.put_row-requires
+put_row-requires c =
     let s = c in
-    (omega (arith, within (goal.at.put_series-requires c).Start, s.requires.sound.0.schedules, s.requires.schedules_len), s.requires.series_len)
+    omega (arith, within (goal.at.put_row-requires c).Start, s.requires.sound.0.schedules, s.requires.schedules_len, s.requires.series_len)
 
 pub returns : goal.returns
 returns c =
@@ -37,4 +34,4 @@ returns c =
     let x = a.series.now in
     let words : map word (map signed x) ≡ x = words-signed x (λ i. omega (arith, known.shared_slice_known-1.given i)) in
     let e = c.put_day.ensures a.d refl in
-    (e.0, λ s. record { answered = refl; held = e.1; planned = rw words c.put_series.ensures })
+    (e.0, λ s. record { answered = refl; held = e.1; planned = rw words (rw c.requires.series_len at c.put_row.ensures) })

@@ -6,13 +6,13 @@ use Rattle.schedules.proofs.Allowed.{reportable}
 use Rattle.schedules.proofs.report.report.Goals as goal
 
 pub month_deviation-sums-requires : goal.month_deviation-sums-requires
-month_deviation-sums-requires c = reportable _ _ _ _ (sym (c.report_ruling-v.ensures no_lengths) ∙ c.in-Fine.is)
+month_deviation-sums-requires c = reportable _ _ _ _ (sym (c.report_ruling.ensures no_lengths) ∙ c.in-Ok.is)
 
-pub returns-in-Refuse : goal.returns-in-Refuse
-returns-in-Refuse c s = report-refused _ _ _ (c.report_ruling-v.ensures (lengths_of s)) c.in-Refuse.is refl
+pub returns-in-Err : goal.returns-in-Err
+returns-in-Err c s = report-refused _ _ _ (c.report_ruling.ensures (lengths_of s)) c.in-Err.is refl
 
-pub returns-in-Fine : goal.returns-in-Fine
-returns-in-Fine c s =
+pub returns-in-Ok : goal.returns-in-Ok
+returns-in-Ok c s =
     let e = c.month_deviation-sums.ensures in
-    report-granted _ _ _ (c.report_ruling-v.ensures (lengths_of s)) c.in-Fine.is
+    report-granted _ _ _ (c.report_ruling.ensures (lengths_of s)) c.in-Ok.is
     (record { answered = refl; over = e.0; under = e.1 })

@@ -3,4 +3,4 @@ use mathlib.Core.Path.{refl}
 use Rattle.state.proofs.changes.close_run.Goals as goal
 
 pub returns : goal.returns
-returns c d e = rw (c.unchanged.ensures, c.with_flag-frame.ensures, e) (tt, refl)
+returns c d e = rw (c.unchanged.ensures, c.with_flag-closed.ensures, e) (tt, refl)

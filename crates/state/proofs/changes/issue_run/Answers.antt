@@ -3,4 +3,4 @@ use mathlib.Core.Path.{refl}
 use Rattle.state.proofs.changes.issue_run.Goals as goal
 
 pub returns : goal.returns
-returns c d e v = (v, rw (c.with_flag-frame.ensures, e) refl)
+returns c d e v = (v, rw (c.with_flag-issued.ensures, e) refl)

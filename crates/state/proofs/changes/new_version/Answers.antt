@@ -7,4 +7,4 @@ pub overflow_cast-result : goal.overflow_cast-result
 overflow_cast-result c = let s = c in omega (arith, within-high 1 256 s.args.point.0 s.requires.point_value)
 
 pub returns : goal.returns
-returns c = rw c.submitted_status-status.ensures
+returns c = rw c.submitted_status.ensures

@@ -3,4 +3,4 @@ use mathlib.Core.Path.{refl}
 use Rattle.state.proofs.changes.open_desk.Goals as goal
 
 pub returns : goal.returns
-returns c d e = rw c.open_frame-frame.ensures (e, refl)
+returns c d e = rw c.open_frame.ensures (e, refl)

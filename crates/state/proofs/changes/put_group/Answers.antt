@@ -3,4 +3,4 @@ use mathlib.Core.Path.{refl}
 use Rattle.state.proofs.changes.put_group.Goals as goal
 
 pub returns : goal.returns
-returns c d e = rw (c.unchanged.ensures, c.with_group-frame.ensures, c.sets_both.ensures, e) (tt, refl)
+returns c d e = rw (c.unchanged.ensures, c.with_group-groups.ensures, c.sets_both.ensures, e) (tt, refl)

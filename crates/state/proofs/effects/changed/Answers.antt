@@ -1,6 +1,5 @@
 -- `changed` meets its contract, by what becomes of the tables. Assumes nothing.
 use Prim.Native.Nat.{◌<◌}
-use mathlib.Core.Logic.{⊎_elim}
 use native.Mathlib.Omega.{arith}
 use Rattle.state.proofs.Bounds.{sound}
 use Rattle.state.proofs.TopVersions.{points-in}
@@ -34,7 +33,7 @@ settled_versions-n-requires c =
     record { count_le_most_versions = v.count; points_in = points-in s.args.d v }
 
 pub returns : goal.returns
-returns c = elim c.match-tables.branch [
+returns c = elim c.match-e.branch [
   | in-Same w ↦ rw (w.n-is, w.in-Same.is) refl
   | in-Fresh w ↦ rw (w.n-is, w.in-Fresh.is, w.fresh_desk-n.ensures) refl
   | in-Point w ↦ rw (w.n-is, w.in-Point.is) refl

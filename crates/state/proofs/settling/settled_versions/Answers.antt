@@ -1,6 +1,6 @@
 -- `settled_versions` meets its contract, in two passes: the table has the highest versions of the records passed, then the records passed are
 -- settled, the others as they were. Assumes nothing.
-use Prim.Native.Nat.{◌≤◌, ◌-◌}
+use Prim.Native.Nat.{◌≤◌}
 use mathlib.Core.Path.{◌≡◌, refl, ◌∙◌}
 use native.Mathlib.Omega.{arith}
 use lib.ListN.{take, get_or}

@@ -13,7 +13,7 @@ use borrow.Author.Rules.{rules}
 use Rattle.submit.proofs.call.submit_granted.Goals.{After-values-1}
 use Rattle.submit.proofs.call.submit_granted.Goals as goal
 
-kept : (c : After-values-1) → length c.put_series.new.store ≡ length c.args.values.now
+kept : (c : After-values-1) → length c.put_row.new.store ≡ length c.args.values.now
 kept c = search rules
 
 pub overflow_mul-start : goal.overflow_mul-start
@@ -29,15 +29,9 @@ follow-used-requires c =
     let a = s.args in
     let g = s.requires in
     let w = g.changed in
-    let stored = c.put_series.new.store in
+    let stored = c.put_row.new.store in
     let turn = turn-same a.f.opening.quarters a.values.now stored (kept (goal.at.follow-used-requires c).After-values-1) a.turn w.turn in
     record { changed = record { few = w.few; allotted = w.allotted; fit = w.fit; whole = w.whole; turn = turn }; room_in = g.left }
-
-pub overflow_add-at : goal.overflow_add-at
-overflow_add-at c = let g = c.requires in omega (arith, g.more)
-
-pub put_version-requires : goal.put_version-requires
-put_version-requires c = c.requires.more
 
 pub returns : goal.returns
 returns c =
@@ -47,7 +41,7 @@ returns c =
     let words : map word (map signed x) ≡ x = words-signed x (λ i. omega (arith, c.shared_slice_known-1.given i)) in
     record {
       desk = λ d. let e = c.put_version.ensures (with_frame d a.f) refl in (e.0, e.1 ∙ rw f.counted);
-      valued = rw words c.put_series.ensures;
+      valued = rw words (rw c.requires.full at c.put_row.ensures);
       booked = f.booked;
       noted = f.noted;
     }

@@ -1,29 +1,24 @@
--- `days_of` meets its contract. The loop: the days of the months passed, at most 31 each. Assumes nothing.
-use mathlib.Core.Path.{refl, ap, ◌∙◌}
-use native.Mathlib.Numerals.{add-one}
-use native.Mathlib.Omega.{arith}
-use Rattle.workdays.specs.Date.{days_of}
+-- `days_of` meets its contract. Assumes nothing.
+use Rattle.std.proofs.Common.{◌≡◌, ◌+◌, refl, ap, ◌∙◌, arith, rules}
+use Rattle.workdays.specs.Date.{days_in, days_of}
+use Rattle.workdays.proofs.Lengths.{days-more, days-most}
+use Rattle.workdays.proofs.Ranges.{added}
 use Rattle.workdays.proofs.dates.days_of.Goals as goal
 
-pub loop-month-init : goal.loop-month-init
+pub sum-requires-clause-fits : goal.sum-requires-clause-fits
 unfolding days_of
-loop-month-init c = (refl, (omega arith, omega arith))
-
-pub overflow_add-month : goal.overflow_add-month
-overflow_add-month c = omega arith
-
-pub days_in-days-requires : goal.days_in-days-requires
-days_in-days-requires c = tt
-
-pub overflow_add-days : goal.overflow_add-days
-overflow_add-days c = omega arith
-
-pub loop-month-smaller : goal.loop-month-smaller
-loop-month-smaller c = omega arith
-
-pub loop-month-preserved : goal.loop-month-preserved
-unfolding days_of
-loop-month-preserved c = (simp (c.loop-month.invariant.0, c.days_in-days.ensures.0, add-one), (omega arith, omega arith))
+sum-requires-clause-fits c p seen from =
+    let mapped = c.map.ensures.runs p seen from in
+    let days = added (days_of c.args.year) (days_in c.args.year) refl (days-more c.args.year) mapped.0 c.args.months c.new.result c.new.ensures.start c.new.ensures.end c.new.ensures.exhausted mapped.1 in
+    let e = mapped.2.4 (λ a x. a + x) (λ a x. a + days_in c.args.year x) 0 (λ x y g a k. search rules) in
+    omega (arith, days-most c.args.year mapped.0.len)
 
 pub returns : goal.returns
-returns c = (c.loop-month.invariant.0 ∙ ap (days_of c.args.year) (omega arith), omega arith)
+unfolding days_of
+returns c =
+    let total = c.sum.ensures.runs tt in
+    let mapped = c.map.ensures.runs total.0 total.0.seen total.1 in
+    let days = added (days_of c.args.year) (days_in c.args.year) refl (days-more c.args.year) mapped.0 c.args.months c.new.result c.new.ensures.start c.new.ensures.end c.new.ensures.exhausted mapped.1 in
+    let e = mapped.2.4 (λ a x. a + x) (λ a x. a + days_in c.args.year x) 0 (λ x y g a k. search rules) in
+    let all : c.sum.result ≡ days_of c.args.year c.args.months = total.3 ∙ e ∙ days.0 ∙ ap (days_of c.args.year) (days.2 (mapped.2.0 ∙ total.2)) in
+    (all, omega (arith, days-most c.args.year c.args.months))

@@ -1,5 +1,0 @@
--- `in_range` meets its contract. Assumes nothing.
-use Rattle.book.proofs.figure.in_range.Goals as goal
-
-pub returns : goal.returns
-returns c = rw (c.quarters_ok.ensures, c.run_ok.ensures, c.group_ok.ensures)

@@ -1,5 +1,0 @@
--- `ended_by` meets its contract. Assumes nothing.
-use Rattle.replay.proofs.run.ended_by.Goals as goal
-
-pub returns-in-Refused : goal.returns-in-Refused
-returns-in-Refused c = rw c.in-Refused.is
