@@ -132,7 +132,7 @@ enum { EMORIZUGU_ISSUE_RUN, EMORIZUGU_ISSUE_DAY, EMORIZUGU_ISSUE_FIELDS };
 
 /*
  * The stack that a call needs, in bytes, with room to spare. A replay needs most, the same for every file: it was measured to
- * use 60,576 bytes, from the frame that calls it down to the lowest byte that it writes; the tests hold it below the half of
+ * use 60,440 bytes, from the frame that calls it down to the lowest byte that it writes; the tests hold it below the half of
  * this. Every other entry uses less than 4,096. What is lent is not in these, and need not be on the stack:
  * struct emorizugu_lent alone has 35,296 bytes.
  */

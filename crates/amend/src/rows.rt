@@ -114,7 +114,7 @@ pub fn differs(a: Selection, b: Selection) -> bool
     match (a, b) {
         (Selection::None, Selection::None) => false,
         (Selection::Selected(r), Selection::Selected(s)) => {
-            (r.at != s.at) | (r.version.0 != s.version.0)
+            (r.at != s.at) | (r.version != s.version)
         }
         _ => true,
     }

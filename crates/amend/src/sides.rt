@@ -5,7 +5,7 @@ ghost use Rattle.book.specs.Place.{group_row};
 
 use model::{Side, Sides};
 use quantity::limits::{DELTAS, GROUPS};
-use state::PointState;
+use state::{PointState, Series};
 
 // The row of a group, counted from 0.
 pub fn group_row(group: u64) -> u64
@@ -38,13 +38,13 @@ fn delta_side(groups: [u64; DELTAS as usize], area: u64) -> Side
 
 // What +v goes to.
 #[tactic(auto, unfolding(model::specs::Series::to_side))]
-fn to_side(groups: [u64; DELTAS as usize], kind: u64, area: u64, partner: u64) -> Side
-    requires { area ≤ 255 }
-    ensures { result ≡ to_side groups kind area partner }
+fn to_side(groups: [u64; DELTAS as usize], series: Series) -> Side
+    requires { series.area ≤ 255 }
+    ensures { result ≡ to_side groups series.kind series.area series.partner }
 {
-    match kind {
-        1 | 5 => delta_side(groups, area),
-        2 | 4 => group_side(partner),
+    match series.kind {
+        1 | 5 => delta_side(groups, series.area),
+        2 | 4 => group_side(series.partner),
         3 => delta_side(groups, 0),
         _ => Side::Outside,
     }
@@ -52,14 +52,14 @@ fn to_side(groups: [u64; DELTAS as usize], kind: u64, area: u64, partner: u64) -
 
 // What -v goes to. As a partner 0 is the outside, and not T.
 #[tactic(auto, unfolding(model::specs::Series::from_side))]
-fn from_side(groups: [u64; DELTAS as usize], kind: u64, area: u64, partner: u64) -> Side
-    requires area_bound { area ≤ 255 }
-    requires partner_bound { partner ≤ 255 }
-    ensures { result ≡ from_side groups kind area partner }
+fn from_side(groups: [u64; DELTAS as usize], series: Series) -> Side
+    requires area_bound { series.area ≤ 255 }
+    requires partner_bound { series.partner ≤ 255 }
+    ensures { result ≡ from_side groups series.kind series.area series.partner }
 {
-    match kind {
-        1 if 0 < partner => delta_side(groups, partner),
-        2 | 3 => delta_side(groups, area),
+    match series.kind {
+        1 if 0 < series.partner => delta_side(groups, series.partner),
+        2 | 3 => delta_side(groups, series.area),
         4 | 5 => delta_side(groups, 0),
         _ => Side::Outside,
     }
@@ -80,12 +80,14 @@ pub fn sides_of(groups: [u64; DELTAS as usize], s: PointState) -> Sides
             partner,
             ..
         } => {
-            let k = kind.0 as u64;
-            let a = area.0 as u64;
-            let b = partner.0 as u64;
+            let series = Series {
+                kind: kind.0 as u64,
+                area: area.0 as u64,
+                partner: partner.0 as u64,
+            };
             Sides {
-                to: to_side(groups, k, a, b),
-                from: from_side(groups, k, a, b),
+                to: to_side(groups, series),
+                from: from_side(groups, series),
             }
         }
     }

@@ -55,7 +55,7 @@ pub fn check(
 }
 
 #[tactic(auto, using(crate::proofs::Figures::accepted))]
-pub fn figure(
+pub fn try_figure(
     book: &[u8],
     quarters: u64,
     run: u64,
@@ -69,4 +69,11 @@ pub fn figure(
     let start = row_start(run as usize, (group - 1) as usize, quarters as usize);
     let index = start + (quarter - 1) as usize;
     Ok(word_at(book, FIGURE_BYTES as usize * index))
+}
+
+// The same, with 0 where it is refused.
+pub fn figure(book: &[u8], quarters: u64, run: u64, group: u64, quarter: u64) -> WattHours
+    ensures { result.0 ≡ figure_in book.now quarters run group quarter }
+{
+    try_figure(book, quarters, run, group, quarter).unwrap_or(WattHours(0))
 }

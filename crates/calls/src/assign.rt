@@ -40,8 +40,8 @@ pub fn assign_ruling(
     refuse_if(size != opening.book, Cause::WrongLength)?;
     let fits = delta_ok(area) & (group_ok(group) & day_ok(day));
     refuse_if(!fits, Cause::BadField)?;
-    refuse_if(day.0 < frame.day.0, Cause::PastDay)?;
-    refuse_if(opening.correction.0 < day.0, Cause::TooLate)
+    refuse_if(day < frame.day, Cause::PastDay)?;
+    refuse_if(opening.correction < day, Cause::TooLate)
 }
 
 // The book and the desk after an assignment that is not refused.

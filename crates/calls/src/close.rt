@@ -16,7 +16,7 @@ use model::Cause;
 use quantity::Day;
 use quantity::limits::{day_ok, run_ok};
 use state::changes::close_run;
-use state::{Desk, Frame, Opening, Runs};
+use state::{Desk, Frame, Opening, PerRun};
 
 // The last day before a run can be closed.
 pub fn deadline_of(opening: Opening, run: u64) -> Day
@@ -30,7 +30,7 @@ pub fn deadline_of(opening: Opening, run: u64) -> Day
 }
 
 // The flag of a run.
-pub fn flag_of(flags: Runs, run: u64) -> bool
+pub fn flag_of(flags: PerRun<bool>, run: u64) -> bool
     ensures { result ≡ flag_of run flags }
 {
     if run == 1 { flags.first } else { flags.second }
@@ -43,8 +43,8 @@ pub fn close_ruling(frame: Frame, l: Look, run: u64, day: Day) -> Result<(), Cau
     let last = deadline_of(frame.opening, run);
     at_work(l.valid, frame.opening)?;
     refuse_if(!(run_ok(run) & day_ok(day)), Cause::BadField)?;
-    refuse_if(day.0 < frame.day.0, Cause::PastDay)?;
-    refuse_if(day.0 <= last.0, Cause::CloseTooEarly)?;
+    refuse_if(day < frame.day, Cause::PastDay)?;
+    refuse_if(day <= last, Cause::CloseTooEarly)?;
     refuse_if(flag_of(frame.closed, run), Cause::AlreadyClosed)?;
     refuse_if((run == 2) & !frame.closed.first, Cause::FirstRunOpen)
 }

@@ -24,8 +24,8 @@ fn deactivate_ruling(frame: Frame, l: Look, point: PointNo, day: Day) -> Result<
 {
     at_work(l.valid, frame.opening)?;
     refuse_if(!(point_ok(point) & day_ok(day)), Cause::BadField)?;
-    refuse_if(day.0 < frame.day.0, Cause::PastDay)?;
-    refuse_if(frame.opening.correction.0 < day.0, Cause::AfterCorrection)?;
+    refuse_if(day < frame.day, Cause::PastDay)?;
+    refuse_if(frame.opening.correction < day, Cause::AfterCorrection)?;
     refuse_if(!is_active(l.here), Cause::NotActive)?;
     refuse_if(l.survey.highest.0 != 0, Cause::HasVersion)
 }

@@ -24,7 +24,7 @@ pub fn issue_ruling(frame: Frame, l: Look, run: u64, day: Day) -> Result<(), Cau
 {
     at_work(l.valid, frame.opening)?;
     refuse_if(!(run_ok(run) & day_ok(day)), Cause::BadField)?;
-    refuse_if(day.0 < frame.day.0, Cause::PastDay)?;
+    refuse_if(day < frame.day, Cause::PastDay)?;
     refuse_if(!flag_of(frame.closed, run), Cause::NotClosed)?;
     refuse_if(flag_of(frame.issued, run), Cause::AlreadyIssued)
 }

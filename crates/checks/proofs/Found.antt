@@ -38,7 +38,7 @@ module _ (p x : ℕ) (vs : List VersionRecord) where
         read = refl;
       }
 
-  pub found-more : (s : Survey) (i : ℕ) → i < length vs → Surveyed p x (take i vs) (reading i s)
+  pub found-more : (s : Survey) (i : ℕ) → i < length vs → Surveyed p x (take i vs) s
       → Surveyed p x (take (i + 1) vs) (reading (i + 1) (survey_step p x s i (get_or vs i empty_version)))
   unfolding best held
   found-more s i h f =
@@ -60,7 +60,7 @@ other-point : (p x : ℕ) (s : Survey) (i : ℕ) (v : VersionRecord) → is_at p
 other-point p x s i v e = let h = other-held p x i v s.held e in rw (← h, e)
 
 pub found-other : (p x : ℕ) (vs : List VersionRecord) (s : Survey) (i : ℕ) → i < length vs → is_at p (get_or vs i empty_version) ≡ false
-    → Surveyed p x (take i vs) (reading i s) → Surveyed p x (take (i + 1) vs) (reading (i + 1) s)
+    → Surveyed p x (take i vs) s → Surveyed p x (take (i + 1) vs) (reading (i + 1) s)
 found-other p x vs s i h e f = rw (other-point p x s i (get_or vs i empty_version) e) (found-more p x vs s i h f)
 
 -- of a table, as many records as it has or as many as are counted are the same records

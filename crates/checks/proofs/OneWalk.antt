@@ -98,9 +98,9 @@ module _ (table : List VersionRecord) (count p x : ℕ) (long : length table ≡
 
 -- "never above 512 and from a fresh desk on one for each version held"
 pub reads-held : ReadsHeld
-reads-held s l c a k asks seen =
+reads-held s l c a k x asks seen =
     let d = (end (fresh s) l).desk in
-    let read = (seen.survey asks).read in
+    let read = (seen.survey x asks).read in
     let held = read ∙ ap length (agree s l c).versions in
     record {
       each = held;

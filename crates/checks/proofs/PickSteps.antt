@@ -9,6 +9,7 @@ use borrow.Author.Tests.{ne_eqb, le-leb}
 use lib.Dec.{leb}
 use lib.ListN.{length, take, get_or, set, replicate, length-set, get_or-replicate, length-replicate}
 use lib.Seq.{get_or-set_same, get_or-set_other}
+use Rattle.state.specs.declared.Selection.{Selection}
 use Rattle.quantity.proofs.Tests.{and-both, within-low, within-high}
 use Rattle.quantity.specs.Limits.{points, point_ok}
 use Rattle.state.proofs.Lists.{walk-none, walk-more}
@@ -17,7 +18,7 @@ use Rattle.state.specs.Version.{empty_version}
 use Rattle.state.specs.declared.Selection.TheVariants.{None}
 use Rattle.state.specs.declared.VersionRecord.{VersionRecord}
 use Rattle.checks.specs.Picks.{picks_at, no_picks, picks_step, PicksIn}
-use Rattle.checks.specs.declared.PointPicks.{PointPicks}
+use Rattle.state.specs.declared.PerRun.{PerRun}
 
 module _ (vs : List VersionRecord) where
   at-none : (p : ℕ) → no_picks ≡ picks_at p (take 0 vs)
@@ -27,8 +28,8 @@ module _ (vs : List VersionRecord) where
   pub picks-none : PicksIn (take 0 vs) (replicate points no_picks)
   picks-none =
       record {
-        size = length-replicate {A = PointPicks} points no_picks;
-        each = λ j h. get_or-replicate {A = PointPicks} points j no_picks no_picks h ∙ at-none (suc j);
+        size = length-replicate {A = PerRun Selection} points no_picks;
+        each = λ j h. get_or-replicate {A = PerRun Selection} points j no_picks no_picks h ∙ at-none (suc j);
       }
 
   at-more : (p i : ℕ) → i < length vs → picks_step p (picks_at p (take i vs)) i (get_or vs i empty_version) ≡ picks_at p (take (i + 1) vs)
@@ -39,7 +40,7 @@ module _ (vs : List VersionRecord) where
   at-other : (p i : ℕ) → i < length vs → (((get_or vs i empty_version).point.0 ≡ p) → ⊥) → picks_at p (take i vs) ≡ picks_at p (take (i + 1) vs)
   at-other p i h ne = rw (ne_eqb _ p ne) at (at-more p i h)
 
-  pub picks-more : (t : List PointPicks) (i : ℕ) → i < length vs → point_ok (get_or vs i empty_version).point.0 ≡ true → PicksIn (take i vs) t
+  pub picks-more : (t : List (PerRun Selection)) (i : ℕ) → i < length vs → point_ok (get_or vs i empty_version).point.0 ≡ true → PicksIn (take i vs) t
       → PicksIn (take (i + 1) vs) (set t ((get_or vs i empty_version).point.0 - 1) (picks_step (get_or vs i empty_version).point.0 (get_or t ((get_or vs i empty_version).point.0 - 1) no_picks) i (get_or vs i empty_version)))
   picks-more t i h k f = record { size = simp length-set f.size; each = λ j b. go j b (ℕ_discrete q (suc j)) }
     where
@@ -49,7 +50,7 @@ module _ (vs : List VersionRecord) where
       q : ℕ
       q = v.point.0
 
-      new : PointPicks
+      new : PerRun Selection
       new = picks_step q (get_or t (q - 1) no_picks) i v
 
       after : List VersionRecord
@@ -69,7 +70,7 @@ module _ (vs : List VersionRecord) where
           rw (get_or-set_other t (q - 1) j new no_picks (λ e. ne (omega (arith, within-low 1 256 q k)))) (f.each j b ∙ at-other (suc j) i h ne)
 
   -- a record of a number that is no point's
-  pub picks-beside : (t : List PointPicks) (i : ℕ) → i < length vs → point_ok (get_or vs i empty_version).point.0 ≡ false → PicksIn (take i vs) t → PicksIn (take (i + 1) vs) t
+  pub picks-beside : (t : List (PerRun Selection)) (i : ℕ) → i < length vs → point_ok (get_or vs i empty_version).point.0 ≡ false → PicksIn (take i vs) t → PicksIn (take (i + 1) vs) t
   picks-beside t i h k f =
       record {
         size = f.size;

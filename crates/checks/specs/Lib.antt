@@ -1,3 +1,4 @@
+pub mod Decides
 pub mod Lent
 pub mod Look
 pub mod Picks

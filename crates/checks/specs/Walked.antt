@@ -1,5 +1,6 @@
 -- Document 02, Change 5, in its own numbers: what one walk over the version table gives.
-use Rattle.std.specs.Prelude.{ℕ, ◌≤◌, ◌<◌, ◌≡◌, true, List, [], map, ◌⊎◌, length, Some, None}
+use Rattle.std.specs.Prelude.{ℕ, ◌≤◌, ◌<◌, ◌≡◌, List, [], map, ◌⊎◌, length, Some, None}
+use Rattle.quantity.specs.declared.Version.{Version}
 use Rattle.state.specs.Version.{record_at, held_version}
 use Rattle.state.specs.declared.VersionRecord.{VersionRecord}
 use Rattle.model.specs.Agreement.{Chained, end, fresh}
@@ -45,4 +46,4 @@ pub record ReadsEach (l : List Lent) (k : Look) : Type 0 where
 
 -- on every list under demand 3's premises
 abbrev pub ReadsHeld : Type 0
-ReadsHeld = (s : Stores) (l : List Lent) → Chained (fresh s) l → (a : Asks) (k : Look) → a.versions ≡ true → Looked (end (fresh s) l).desk a k → ReadsEach l k
+ReadsHeld = (s : Stores) (l : List Lent) → Chained (fresh s) l → (a : Asks) (k : Look) (x : Version) → a.version ≡ Some x → Looked (end (fresh s) l).desk a k → ReadsEach l k

@@ -33,13 +33,6 @@ pub struct Tested {
     pub survey: Survey,
 }
 
-// Run 1's selection of a point, and run 2's own.
-#[derive(Clone, Copy)]
-pub struct PointPicks {
-    pub first: Selection,
-    pub second: Selection,
-}
-
 // What one walk over the points finds: whether each record is within its limits, and whether an active point has the kind, area and
 // partner asked for.
 #[derive(Clone, Copy)]

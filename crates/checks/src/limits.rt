@@ -11,12 +11,17 @@ use quantity::limits::{
     quarters_ok, version_ok,
 };
 use quantity::{Day, PointNo};
-use state::{DeltaGroups, Frame, Opening, PointRecord, PointState, VersionRecord};
+use state::{DeltaGroups, Frame, Opening, PointRecord, PointState, Series, VersionRecord};
 
 #[tactic(auto, unfolding(state::specs::Point::series_ok))]
-pub fn series_ok(kind: u64, area: u64, partner: u64) -> bool
-    ensures { result ≡ series_ok kind area partner }
+pub fn series_ok(series: Series) -> bool
+    ensures { result ≡ series_ok series.kind series.area series.partner }
 {
+    let Series {
+        kind,
+        area,
+        partner,
+    } = series;
     match kind {
         1 => area_ok(area) & (partner < area),
         2 => area_ok(area) & group_ok(partner),
@@ -37,7 +42,12 @@ pub fn point_record_ok(p: PointRecord) -> bool
             area,
             partner,
         } => {
-            day_ok(Day(since.0 as u64)) & series_ok(kind.0 as u64, area.0 as u64, partner.0 as u64)
+            let series = Series {
+                kind: kind.0 as u64,
+                area: area.0 as u64,
+                partner: partner.0 as u64,
+            };
+            day_ok(Day(since.0 as u64)) & series_ok(series)
         }
     }
 }

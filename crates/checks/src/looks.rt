@@ -13,21 +13,28 @@ use crate::surveys::{nothing_found, survey, survey_tested};
 use model::Asks;
 use quantity::{PointNo, Version};
 use state::statuses::is_check;
-use state::{Desk, HeldVersion, Opening, PointRecord};
+use state::{Desk, HeldVersion, Opening, PointRecord, Series};
 
-// All limits are tested, by one walk over each table.
+// All limits are tested, by one walk over each table, whatever the call asks; where it asks for no series or version, 0 is looked for.
 pub fn look(d: Desk, a: Asks) -> Look
     ensures { Looked d a result }
 {
     let frame = d.frame;
+    let version = a.version.unwrap_or(Version(0));
+    let none = Series {
+        kind: 0,
+        area: 0,
+        partner: 0,
+    };
+    let series = a.series.unwrap_or(none);
     let found = survey_tested(
         d.versions,
         frame.count,
         rows_in(frame.opening),
         a.point,
-        a.version,
+        version,
     );
-    let seen = scan(d.points, a.kind, a.area, a.partner);
+    let seen = scan(d.points, series);
     let here = state_at(d.points, a.point);
     let valid = frame_ok(frame) & (seen.fit & found.fit);
     Look {
@@ -46,14 +53,14 @@ pub fn glance(d: Desk, p: PointRecord, a: Asks) -> Look
     ensures { Looked d a result }
 {
     let here = state_in(p, a.point);
-    let mut taken = false;
-    if a.series {
-        taken = has_series(d.points, a.kind, a.area, a.partner);
-    }
-    let mut found = nothing_found();
-    if a.versions {
-        found = survey(d.versions, d.frame.count, a.point, a.version);
-    }
+    let taken = match a.series {
+        Some(series) => has_series(d.points, series),
+        None => false,
+    };
+    let found = match a.version {
+        Some(version) => survey(d.versions, d.frame.count, a.point, version),
+        None => nothing_found(),
+    };
     Look {
         valid: is_open(d.frame.opening),
         here,
@@ -68,27 +75,19 @@ pub fn asking_nothing() -> Asks
 {
     Asks {
         point: PointNo(0),
-        series: false,
-        kind: 0,
-        area: 0,
-        partner: 0,
-        versions: false,
-        version: Version(0),
+        series: None,
+        version: None,
     }
 }
 
 // A call that names a point and a series that may stand only once.
-pub fn asking_series(point: PointNo, kind: u64, area: u64, partner: u64) -> Asks
-    ensures { result ≡ asking_series point.0 kind area partner }
+pub fn asking_series(point: PointNo, series: Series) -> Asks
+    ensures { result ≡ asking_series point.0 series.kind series.area series.partner }
 {
     Asks {
         point,
-        series: true,
-        kind,
-        area,
-        partner,
-        versions: false,
-        version: Version(0),
+        series: Some(series),
+        version: None,
     }
 }
 
@@ -98,12 +97,8 @@ pub fn asking_versions(point: PointNo, version: Version) -> Asks
 {
     Asks {
         point,
-        series: false,
-        kind: 0,
-        area: 0,
-        partner: 0,
-        versions: true,
-        version,
+        series: None,
+        version: Some(version),
     }
 }
 

@@ -3,19 +3,18 @@ ghost use Rattle.std.specs.Prelude.{◌≡◌, take, replicate};
 ghost use Rattle.quantity.specs.Limits.{points};
 ghost use Rattle.checks.specs.Picks.{no_picks, picks_step, PicksIn, selected_in};
 
-use crate::PointPicks;
 use crate::points::place_of;
 use crate::surveys::records_in;
 use quantity::PointNo;
 use quantity::limits::{POINTS, VERSIONS, point_ok};
 use state::selections::{is_counted, or_else, raised_if, row_at};
-use state::{Selection, VersionRecord};
+use state::{PerRun, Selection, VersionRecord};
 
 // Of no record.
-fn no_picks() -> [PointPicks; POINTS as usize]
+fn no_picks() -> [PerRun<Selection>; POINTS as usize]
     ensures { result ≡ replicate points no_picks }
 {
-    let none = PointPicks {
+    let none = PerRun {
         first: Selection::None,
         second: Selection::None,
     };
@@ -29,11 +28,11 @@ fn point_of(v: VersionRecord) -> PointNo
 }
 
 // One record of the point more.
-fn picked(p: PointPicks, at: u64, v: VersionRecord, point: PointNo) -> PointPicks
+fn picked(p: PerRun<Selection>, at: u64, v: VersionRecord, point: PointNo) -> PerRun<Selection>
     ensures { result ≡ picks_step point.0 p at v }
 {
     let row = row_at(at, v);
-    PointPicks {
+    PerRun {
         first: raised_if(is_counted(v, 1, point), p.first, row),
         second: raised_if(is_counted(v, 2, point), p.second, row),
     }
@@ -43,7 +42,7 @@ fn picked(p: PointPicks, at: u64, v: VersionRecord, point: PointNo) -> PointPick
 pub fn picks_of(
     versions: [VersionRecord; VERSIONS as usize],
     count: u64,
-) -> [PointPicks; POINTS as usize]
+) -> [PerRun<Selection>; POINTS as usize]
     ensures { PicksIn (take count versions) result }
 {
     let mut picks = no_picks();
@@ -61,7 +60,7 @@ pub fn picks_of(
 }
 
 // What a run selects of the point.
-pub fn selected_in(p: PointPicks, run: u64) -> Selection
+pub fn selected_in(p: PerRun<Selection>, run: u64) -> Selection
     ensures { result ≡ selected_in run p }
 {
     if run == 1 {

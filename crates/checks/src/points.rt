@@ -1,14 +1,16 @@
 // Points: a point's state, its series, and the walk over the points, with the limits of each record or without.
-ghost use Rattle.std.specs.Prelude.{◌≡◌};
-ghost use Rattle.quantity.specs.Lists.{any};
+ghost use Rattle.std.specs.Prelude.{◌≡◌, Bool};
+ghost use Rattle.quantity.specs.Lists.{all, any};
 ghost use Rattle.state.specs.Point.{point_at, is_active, since_of, is_series, has_series};
+ghost use Rattle.state.specs.declared.PointRecord.{PointRecord};
+ghost use Rattle.checks.specs.Decides.{Decides};
 ghost use Rattle.checks.specs.Survey.{place_of, state_in, Scanned};
 
 use crate::Scan;
 use crate::limits::point_record_ok;
 use quantity::limits::{POINTS, point_ok};
 use quantity::{Day, PointNo};
-use state::{PointRecord, PointState};
+use state::{PointRecord, PointState, Series};
 
 // Where the record of a point stands. A number that is no point's has none; the first record is read for it, and not looked at.
 pub fn place_of(point: PointNo) -> usize
@@ -52,44 +54,47 @@ pub fn since_of(s: PointState) -> Day
 }
 
 // The partner is asked first: it tells most points apart.
-pub fn is_series(s: PointState, kind: u64, area: u64, partner: u64) -> bool
-    ensures { result ≡ is_series kind area partner s }
+pub fn is_series(s: PointState, series: Series) -> bool
+    ensures { result ≡ is_series series.kind series.area series.partner s }
 {
     match s {
         PointState::Free => false,
         PointState::Active {
-            kind: k,
-            area: a,
-            partner: b,
+            kind,
+            area,
+            partner,
             ..
-        } => b.0 as u64 == partner && (k.0 as u64 == kind) & (a.0 as u64 == area),
+        } => {
+            partner.0 as u64 == series.partner
+                && (kind.0 as u64 == series.kind) & (area.0 as u64 == series.area)
+        }
     }
 }
 
-// Whether an active point has the kind, area and partner. No limit is tested.
-pub fn has_series(
-    points: [PointRecord; POINTS as usize],
-    kind: u64,
-    area: u64,
-    partner: u64,
-) -> bool
-    ensures { result ≡ any (has_series kind area partner) points }
-{
-    let mut taken = false;
-    for p in &points {
-        taken |= is_series(p.state, kind, area, partner);
-    }
-    taken
-}
-
-pub fn scan(points: [PointRecord; POINTS as usize], kind: u64, area: u64, partner: u64) -> Scan
-    ensures { Scanned kind area partner points result }
+// Whether an active point has the series, with a test of each record.
+fn walk<F: Fn(PointRecord) -> bool>(points: &[PointRecord], series: Series, fits: F) -> Scan
+    requires { F.IsAlwaysCallable fits }
+    ensures taken { result.taken ≡ any (has_series series.kind series.area series.partner) points.now }
+    ensures fit { (test : PointRecord → Bool) → Decides (F.post fits) test → result.fit ≡ all test points.now }
 {
     let mut fit = true;
     let mut taken = false;
-    for p in &points {
-        fit &= point_record_ok(*p);
-        taken |= is_series(p.state, kind, area, partner);
+    for p in points {
+        fit &= fits(*p);
+        taken |= is_series(p.state, series);
     }
     Scan { fit, taken }
+}
+
+// No limit is tested.
+pub fn has_series(points: [PointRecord; POINTS as usize], series: Series) -> bool
+    ensures { result ≡ any (has_series series.kind series.area series.partner) points }
+{
+    walk(&points, series, |_| true).taken
+}
+
+pub fn scan(points: [PointRecord; POINTS as usize], series: Series) -> Scan
+    ensures { Scanned series.kind series.area series.partner points result }
+{
+    walk(&points, series, point_record_ok)
 }

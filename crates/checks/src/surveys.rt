@@ -1,8 +1,11 @@
 // The walk over the versions: all that a call asks of them, with the limits of each record or without.
-ghost use Rattle.std.specs.Prelude.{◌≡◌, cond, ltb, take};
+ghost use Rattle.std.specs.Prelude.{◌≡◌, Bool, cond, ltb, take};
 ghost use Rattle.quantity.specs.Limits.{versions as most_versions};
+ghost use Rattle.quantity.specs.Lists.{all};
+ghost use Rattle.checks.specs.Decides.{Decides};
 ghost use Rattle.checks.specs.Survey.{nothing_found, survey_step, Surveyed, TestedIn};
 ghost use Rattle.state.specs.Version.{or_held};
+ghost use Rattle.state.specs.declared.VersionRecord.{VersionRecord};
 
 use crate::limits::version_record_ok;
 use crate::{Survey, Tested};
@@ -70,7 +73,30 @@ pub fn records_in(count: u64) -> usize
     }
 }
 
-// No limit is tested. A record is read at the number of those read before it, and nowhere else.
+// All that a call asks of the versions, with a test of each record. A record is read at the number of those read before it, and nowhere else.
+fn walk<F: Fn(VersionRecord) -> bool>(
+    versions: &[VersionRecord],
+    point: PointNo,
+    version: Version,
+    fits: F,
+) -> Tested
+    requires { F.IsAlwaysCallable fits }
+    ensures survey { Surveyed point.0 version.0 versions.now result.survey }
+    ensures fit { (test : VersionRecord → Bool) → Decides (F.post fits) test → result.fit ≡ all test versions.now }
+{
+    let mut fit = true;
+    let mut s = nothing_found();
+    for v in versions {
+        fit &= fits(*v);
+        if is_at(*v, point) {
+            s = surveyed(s, s.read, *v, point, version);
+        }
+        s.read += 1;
+    }
+    Tested { fit, survey: s }
+}
+
+// No limit is tested.
 pub fn survey(
     versions: [VersionRecord; VERSIONS as usize],
     count: u64,
@@ -79,19 +105,7 @@ pub fn survey(
 ) -> Survey
     ensures { Surveyed point.0 version.0 (take count versions) result }
 {
-    let mut s = nothing_found();
-    let n = records_in(count);
-    let mut read = 0;
-    while read < n {
-        let at = read;
-        let v = versions[at];
-        read += 1;
-        if is_at(v, point) {
-            s = surveyed(s, at as u64, v, point, version);
-        }
-    }
-    s.read = read as u64;
-    s
+    walk(&versions[..records_in(count)], point, version, |_| true).survey
 }
 
 // The same with the limits of each record; one of another point is only asked whether it fits.
@@ -104,19 +118,7 @@ pub fn survey_tested(
 ) -> Tested
     ensures { TestedIn rows point.0 version.0 (take count versions) result }
 {
-    let mut fit = true;
-    let mut s = nothing_found();
-    let n = records_in(count);
-    let mut read = 0;
-    while read < n {
-        let at = read;
-        let v = versions[at];
-        read += 1;
-        fit = fit & version_record_ok(v, rows);
-        if is_at(v, point) {
-            s = surveyed(s, at as u64, v, point, version);
-        }
-    }
-    s.read = read as u64;
-    Tested { fit, survey: s }
+    walk(&versions[..records_in(count)], point, version, |v| {
+        version_record_ok(v, rows)
+    })
 }

@@ -44,7 +44,7 @@ pub fn check(
 
 // Both sums of a run and group.
 #[tactic(auto, using(crate::proofs::Reports::found))]
-pub fn report(
+pub fn try_report(
     book: &[u8],
     schedules: &[u8],
     quarters: u64,
@@ -66,4 +66,11 @@ pub fn report(
         |k| word_at(schedules, size * (planned + k)),
         |k| word_at(book, size * (booked + k)),
     ))
+}
+
+// The same, with 0 for both where it is refused.
+pub fn report(book: &[u8], schedules: &[u8], quarters: u64, run: u64, group: u64) -> Deviation
+    ensures { (result.surplus.0 ≡ surplus_in book.now schedules.now quarters run group) × (result.shortfall.0 ≡ shortfall_in book.now schedules.now quarters run group) }
+{
+    try_report(book, schedules, quarters, run, group).unwrap_or(Deviation::NONE)
 }

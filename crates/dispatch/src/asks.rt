@@ -9,6 +9,7 @@ use checks::points::place_of;
 use message::DeskCall;
 use model::Asks;
 use quantity::Version;
+use state::Series;
 
 // The point and version that it names, or the series that may stand only once.
 pub fn asks_of(call: DeskCall) -> Asks
@@ -21,7 +22,14 @@ pub fn asks_of(call: DeskCall) -> Asks
             area,
             partner,
             ..
-        } => asking_series(point, kind, area, partner),
+        } => {
+            let series = Series {
+                kind,
+                area,
+                partner,
+            };
+            asking_series(point, series)
+        }
         DeskCall::Deactivate { point, .. } => asking_versions(point, Version(0)),
         DeskCall::Submit { point, version, .. } | DeskCall::Notice { point, version, .. } => {
             asking_versions(point, version)

@@ -20,7 +20,7 @@ use checks::{Decided, Look, Outcome};
 use message::DeskCall;
 use notice::call::decide_notice;
 use quantity::limits::DELTAS;
-use state::{Desk, Frame};
+use state::{Desk, Frame, Series};
 use submit::call::decide_submit;
 
 // By the desk's frame and one look at it. The groups are an opening's, the series a submission's energies, as many as it has.
@@ -51,7 +51,14 @@ pub fn decide(
             area,
             partner,
             day,
-        } => decide_activate(f, l, point, kind, area, partner, day),
+        } => {
+            let asked = Series {
+                kind,
+                area,
+                partner,
+            };
+            decide_activate(f, l, point, asked, day)
+        }
         DeskCall::Deactivate { point, day } => decide_deactivate(f, l, point, day),
         DeskCall::Submit {
             point,

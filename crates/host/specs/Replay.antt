@@ -1,8 +1,7 @@
 -- A whole file through a fresh desk, as plain numbers and slices.
 use Rattle.std.specs.Prelude.{ℕ, ◌+◌, ◌*◌, ◌≡◌, Bool, true, false, ◌&&◌, List, [], ◌∷◌, ◌++◌, leb, length}
 use Rattle.quantity.specs.Limits.{runs, deltas}
-use Rattle.state.specs.declared.DeltaGroups.{DeltaGroups}
-use Rattle.state.specs.declared.Runs.{Runs}
+use Rattle.state.specs.declared.PerRun.{PerRun}
 use Rattle.replay.specs.Given.{Given}
 use Rattle.message.specs.Cause.{cause_number}
 use Rattle.message.specs.File.{calls_in}
@@ -54,12 +53,12 @@ fitting p = fits (length p.summary) (length p.points) (length p.versions)
 
 -- how many calls are answered, the offset, Q (0: not open), log rows used, versions held, how many calls are refused, which is the first, the
 -- desk's day, whether run 1 is closed and whether run 2 is, whether run 1 is issued and whether run 2 is
-abbrev pub numbered : (answered offset quarters used held refused first day : ℕ) (closed issued : Runs) → List ℕ
+abbrev pub numbered : (answered offset quarters used held refused first day : ℕ) (closed issued : PerRun Bool) → List ℕ
 numbered answered offset quarters used held refused first day closed issued =
     answered ∷ offset ∷ quarters ∷ used ∷ held ∷ refused ∷ first ∷ day ∷ flag_number closed.first ∷ flag_number closed.second ∷ flag_number issued.first ∷ flag_number issued.second ∷ []
 
 -- behind them the delta groups of run 1, T's and those of areas 1 to 16, then those of run 2
-abbrev pub listed : (answered offset quarters used held refused first day : ℕ) (closed issued : Runs) → DeltaGroups → List ℕ
+abbrev pub listed : (answered offset quarters used held refused first day : ℕ) (closed issued : PerRun Bool) → PerRun (List ℕ) → List ℕ
 listed answered offset quarters used held refused first day closed issued gs =
     numbered answered offset quarters used held refused first day closed issued ++ (gs.first ++ gs.second)
 

@@ -32,8 +32,5 @@ pub extern "C" fn emorizugu_figure(
 ) -> u64
     ensures { result ≡ figure_in book.now quarters run group quarter }
 {
-    match figure(book, quarters, run, group, quarter) {
-        Ok(figure) => figure.0,
-        Err(_) => 0,
-    }
+    figure(book, quarters, run, group, quarter).0
 }

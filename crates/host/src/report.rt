@@ -32,10 +32,7 @@ pub extern "C" fn emorizugu_surplus(
 ) -> u64
     ensures { result ≡ surplus_in book.now schedules.now quarters run group }
 {
-    match report(book, schedules, quarters, run, group) {
-        Ok(sums) => sums.surplus.0,
-        Err(_) => 0,
-    }
+    report(book, schedules, quarters, run, group).surplus.0
 }
 
 // The shortfall likewise.
@@ -49,8 +46,5 @@ pub extern "C" fn emorizugu_shortfall(
 ) -> u64
     ensures { result ≡ shortfall_in book.now schedules.now quarters run group }
 {
-    match report(book, schedules, quarters, run, group) {
-        Ok(sums) => sums.shortfall.0,
-        Err(_) => 0,
-    }
+    report(book, schedules, quarters, run, group).shortfall.0
 }

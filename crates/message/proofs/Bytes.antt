@@ -14,7 +14,7 @@ use Rattle.message.specs.Offset.{itself, number_of, number_at, passed_of, number
 use Rattle.message.specs.declared.FileCause.{FileCause}
 use Rattle.message.proofs.Numbers.{decode-only, decode-last, decode-more, decode-few}
 use Rattle.message.proofs.NumberSteps.{finish}
-use Rattle.message.proofs.Placed.{found, passed-not, same-next}
+use Rattle.message.proofs.Placed.{found, found-not, passed-not, same-next}
 
 -- the bytes from one offset up to another go on
 abbrev pub GoOn : List ℕ → (from to : ℕ) → Type 0
@@ -55,6 +55,12 @@ passes size (refused x) e = absurd (let z : ◌≡◌ {A = ℕ} 0 1 = cc in omeg
 valued : (size : ℕ) (d : Read ℕ) {n : ℕ} → Ok n ≡ passed_of size d → (v : ℕ) × (number_of itself size d ≡ number_to v n)
 valued size (got u r) {n} e = let k : size - length r ≡ n = cc in (u, ap (number_to u) k)
 valued size (refused x) e = absurd (let z : ◌≡◌ {A = ℕ} 0 1 = cc in omega arith)
+
+pub passed-number : (s : List ℕ) (at : ℕ) {v n : ℕ} → number_at s at ≡ number_to v n → Ok n ≡ passed_of (length s) (decode (drop at s))
+passed-number s at e = passes (length s) (decode (drop at s)) e
+
+pub not-passed-number : (s : List ℕ) (at : ℕ) {x : FileCause} → number_at s at ≡ Err x → Err x ≡ passed_of (length s) (decode (drop at s))
+not-passed-number s at e = rw (found-not s at e)
 
 pub no-value : (s : List ℕ) (at : ℕ) {x : FileCause} → Err x ≡ passed_of (length s) (decode (drop at s)) → number_at s at ≡ Err x
 no-value s at e = rw (passed-not (length s) (decode (drop at s)) (sym e))

@@ -114,6 +114,27 @@ fn pass_any(file: &[u8], at: usize) -> Result<usize, FileCause>
     Ok(number::read_number(file, at)?.next)
 }
 
+// The offset behind a number whose first byte has its top bit set: its bytes are not decoded.
+fn pass_long(file: &[u8], at: usize) -> Result<usize, FileCause>
+    requires { (at < length file.now) × (128 ≤ get_or file.now at 0) }
+    ensures { result ≡ passed_of (length file.now) (decode (drop at file.now)) }
+{
+    for i in 1..number::MOST_BYTES {
+        let j = at + i;
+        if file.len() <= j {
+            return Err(FileCause::Cut);
+        }
+        let b = file[j];
+        if b < TOP {
+            if b == 0 {
+                return Err(FileCause::NotShortest);
+            }
+            return Ok(j + 1);
+        }
+    }
+    Err(FileCause::NotShortest)
+}
+
 // The offset behind a number, with no call where it has one to three bytes.
 fn pass_one(file: &[u8], at: usize) -> Result<usize, FileCause>
     requires { at + 3 ≤ length file.now }
@@ -124,19 +145,19 @@ fn pass_one(file: &[u8], at: usize) -> Result<usize, FileCause>
     }
     let b = file[at + 1];
     if b == 0 {
-        return pass_any(file, at);
+        return pass_long(file, at);
     }
     if b < TOP {
         return Ok(at + 2);
     }
     let c = file[at + 2];
     if c == 0 {
-        return pass_any(file, at);
+        return pass_long(file, at);
     }
     if c < TOP {
         return Ok(at + 3);
     }
-    pass_any(file, at)
+    pass_long(file, at)
 }
 
 // The offset behind n numbers that the file has room for, whatever their bytes.

@@ -6,14 +6,14 @@ use borrow.Author.Tests.{le-leb, lt-leb}
 use lib.IntN.{ℤ}
 use lib.ListN.{length, set, length-set, length-append, get_or-append}
 use lib.Seq.{get_or-set_same, get_or-set_other, get_or-append_seam}
+use mathlib.Core.Bool.{Bool}
 use Rattle.quantity.specs.Lists.{fold}
 use Rattle.state.specs.Groups.{sets_both, with_group}
 use Rattle.state.specs.Point.{free_point}
 use Rattle.state.specs.Version.{empty_version, new_version, record_at}
-use Rattle.state.specs.declared.DeltaGroups.{DeltaGroups}
+use Rattle.state.specs.declared.PerRun.{PerRun}
 use Rattle.state.specs.declared.Opening.{Opening}
 use Rattle.state.specs.declared.PointState.TheVariants.{Free, Active}
-use Rattle.state.specs.declared.Runs.{Runs}
 use Rattle.state.specs.declared.VersionRecord.{VersionRecord}
 use Rattle.state.proofs.Settled.{submitted-number, settles-first, settles-second}
 use Rattle.model.specs.Call.{Call, opens, activates, deactivates, submits, notices, assigns, shows, asks, closes, issues, lodges, reports, Lengths, telling}
@@ -23,7 +23,7 @@ use Rattle.model.specs.Plain.{Worked, after}
 pub sets-one : {A : Type 0} (z : A) (l : List A) (i : ℕ) (x : A) → Sets z i x l (set l i x)
 sets-one z l i x = record { there = get_or-set_same l i x z; others = λ j ne. get_or-set_other l i j x z ne; size = length-set l i x }
 
-pub allotted : (o : Opening) (gs : DeltaGroups) (d a g : ℕ) → Allots o.clearing.0 d a g gs (with_group (sets_both o d) a g gs)
+pub allotted : (o : Opening) (gs : PerRun (List ℕ)) (d a g : ℕ) → Allots o.clearing.0 d a g gs (with_group (sets_both o d) a g gs)
 allotted o gs d a g =
     let c = o.clearing.0 in
     record { early = λ h. rw (le-leb d c h) (sets-one 0 gs.first a g); late = λ h. rw (lt-leb d c h); second = sets-one 0 gs.second a g }
@@ -72,20 +72,20 @@ module _ (w : Worked) (n : Lengths) where
   lodges-sets g d es = sets-one [] w.schedules (g - 1) es
 
   -- a close of each run
-  pub closes-first : (d : ℕ) → Closes (λ (r : Runs). r.first) (λ (r : Runs). r.second) w (after (telling n (closes 1 d)) w)
+  pub closes-first : (d : ℕ) → Closes (λ (r : PerRun Bool). r.first) (λ (r : PerRun Bool). r.second) w (after (telling n (closes 1 d)) w)
   unfolding after fold
   closes-first d = record { closed = refl; apart = refl; issued = refl; versions = refl }
 
-  pub closes-second : (d : ℕ) → Closes (λ (r : Runs). r.second) (λ (r : Runs). r.first) w (after (telling n (closes 2 d)) w)
+  pub closes-second : (d : ℕ) → Closes (λ (r : PerRun Bool). r.second) (λ (r : PerRun Bool). r.first) w (after (telling n (closes 2 d)) w)
   unfolding after fold
   closes-second d = record { closed = refl; apart = refl; issued = refl; versions = refl }
 
   -- and an issue: 2 and 3 become 3, 4 and 5 become 5
-  pub issues-first : (d : ℕ) → Issues (λ (r : Runs). r.first) (λ (r : Runs). r.second) 1 2 3 w (after (telling n (issues 1 d)) w)
+  pub issues-first : (d : ℕ) → Issues (λ (r : PerRun Bool). r.first) (λ (r : PerRun Bool). r.second) 1 2 3 w (after (telling n (issues 1 d)) w)
   unfolding after fold
   issues-first d = record { issued = refl; apart = refl; closed = refl; settles = settles-first w.versions }
 
-  pub issues-second : (d : ℕ) → Issues (λ (r : Runs). r.second) (λ (r : Runs). r.first) 2 4 5 w (after (telling n (issues 2 d)) w)
+  pub issues-second : (d : ℕ) → Issues (λ (r : PerRun Bool). r.second) (λ (r : PerRun Bool). r.first) 2 4 5 w (after (telling n (issues 2 d)) w)
   unfolding after fold
   issues-second d = record { issued = refl; apart = refl; closed = refl; settles = settles-second w.versions }
 

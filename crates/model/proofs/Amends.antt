@@ -16,7 +16,7 @@ use Rattle.state.specs.Point.{point_at}
 use Rattle.state.specs.Selection.{own, selected}
 use Rattle.state.specs.Valid.{point_record_ok, deltas_ok}
 use Rattle.state.specs.Version.{record_at}
-use Rattle.state.specs.declared.DeltaGroups.{DeltaGroups}
+use Rattle.state.specs.declared.PerRun.{PerRun}
 use Rattle.state.specs.declared.PointRecord.{PointRecord}
 use Rattle.state.specs.declared.Selection.{Selection}
 use Rattle.state.specs.declared.Selection.TheVariants.{None, Selected}
@@ -76,7 +76,7 @@ module _ (q : ℕ) (values : List ℕ) (ws : List VersionRecord) (es : List (Lis
   energies-run run lo hi s x y old new wo wn = amend-run q run lo hi s x y values old new (energy es old) (energy es new) (holding old wo) (holding new wn) (energy-same es old new)
 
   -- both runs, at a point whose versions changed
-  pub follow : (ps : List PointRecord) (gs : DeltaGroups) → all point_record_ok ps ≡ true → deltas_ok gs ≡ true → (p : ℕ) → 1 ≤ p → p ≤ points → (vs : List VersionRecord) → length vs ≤ length ws
+  pub follow : (ps : List PointRecord) (gs : PerRun (List ℕ)) → all point_record_ok ps ≡ true → deltas_ok gs ≡ true → (p : ℕ) → 1 ≤ p → p ≤ points → (vs : List VersionRecord) → length vs ≤ length ws
       → ((i : ℕ) → i < length vs → (record_at ws i).row.0 ≡ (record_at vs i).row.0) → ((r i : ℕ) → (i ≡ p → ⊥) → own r i ws ≡ own r i vs) → (book : List ℕ) → Booked q book (figure_of ps gs vs es)
       → Booked q (amended q gs (point_at ps p) p vs ws values book) (figure_of ps gs ws es)
   unfolding amended

@@ -23,7 +23,7 @@ use Rattle.state.specs.Point.{free_point, point_at}
 use Rattle.state.specs.Selection.{selected}
 use Rattle.state.specs.Valid.{state_ok, deltas_ok, valid_desk}
 use Rattle.state.specs.Version.{empty_version, record_at}
-use Rattle.state.specs.declared.DeltaGroups.{DeltaGroups}
+use Rattle.state.specs.declared.PerRun.{PerRun}
 use Rattle.state.specs.declared.Desk.{Desk}
 use Rattle.state.specs.declared.PointState.{PointState}
 use Rattle.state.specs.declared.Selection.{Selection}
@@ -61,7 +61,7 @@ module _ (q : ℕ) (values : List ℕ) (in_v : Words values) where
         words = λ j l. ap (λ (n : ℕ). get_or values (n * q + j) 0) (sym w.1) ∙ sym (word-signed (get_or values ((record_at us r.at).row.0 * q + j) 0) (in_v ((record_at us r.at).row.0 * q + j)));
       }
 
-module _ (q : ℕ) (gs : DeltaGroups) (in_g : deltas_ok gs ≡ true) (here : PointState) (in_here : state_ok here ≡ true) (p : ℕ) (vs ws : List VersionRecord) (few : length vs ≤ length ws)
+module _ (q : ℕ) (gs : PerRun (List ℕ)) (in_g : deltas_ok gs ≡ true) (here : PointState) (in_here : state_ok here ≡ true) (p : ℕ) (vs ws : List VersionRecord) (few : length vs ≤ length ws)
     (rows : (i : ℕ) → i < length vs → (record_at ws i).row.0 ≡ (record_at vs i).row.0) (values : List ℕ) (in_v : Words values)
     (room : (i : ℕ) → i < length ws → (record_at ws i).row.0 * q + q ≤ length values) (book : List ℕ) (in_b : Words book) (size : length book ≡ book_rows * q) where
   -- the book as it is read

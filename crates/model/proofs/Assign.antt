@@ -13,7 +13,7 @@ use Rattle.quantity.proofs.Tests.{by-test, and-left, and-right, and-both, within
 use Rattle.state.specs.Desk.{versions_in, desk_with, the_day, the_groups}
 use Rattle.state.specs.Groups.{sets_both, with_group}
 use Rattle.state.specs.Valid.{deltas_ok}
-use Rattle.state.specs.declared.DeltaGroups.{DeltaGroups}
+use Rattle.state.specs.declared.PerRun.{PerRun}
 use Rattle.state.proofs.Bounds.{deltas-in}
 use Rattle.model.specs.Agreement.{left}
 use Rattle.model.specs.Call.{assigns, the_book, lengths_of}
@@ -24,7 +24,7 @@ use Rattle.model.proofs.Lending.{book-own, left-book}
 use Rattle.model.proofs.Moves.{booked-moved}
 
 -- the delta groups stay within their limits
-grouped-with : (both : Bool) (a g : ℕ) (gs : DeltaGroups) → group_ok g ≡ true → Grouped gs → Grouped (with_group both a g gs)
+grouped-with : (both : Bool) (a g : ℕ) (gs : PerRun (List ℕ)) → group_ok g ≡ true → Grouped gs → Grouped (with_group both a g gs)
 unfolding deltas_ok
 grouped-with both a g gs in_g G =
     let in_first = deltas-in gs G.each 1 in

@@ -1,7 +1,7 @@
 -- What an accepted call makes of the running desk and its stores, in any state, and what the plain desk begins with. Assumes nothing.
 use Prim.Native.Nat.{ℕ, zero, suc, ◌+◌, ◌-◌, ◌*◌, ◌≤◌}
 use mathlib.Core.Path.{◌≡◌, refl, sym, ap, ◌∙◌}
-use mathlib.Core.Bool.{true, not, true≢false}
+use mathlib.Core.Bool.{true, not, true≢false, Bool}
 use mathlib.Core.List.{List, [], ◌∷◌, ◌++◌, map}
 use mathlib.Core.Logic.{⊎_elim}
 use native.Mathlib.Omega.{arith}
@@ -28,7 +28,7 @@ use Rattle.state.specs.declared.Desk.{Desk}
 use Rattle.state.specs.declared.HeldVersion.{HeldVersion}
 use Rattle.state.specs.declared.PointRecord.{PointRecord}
 use Rattle.state.specs.declared.PointState.TheVariants.{Free, Active}
-use Rattle.state.specs.declared.Runs.{Runs}
+use Rattle.state.specs.declared.PerRun.{PerRun}
 use Rattle.state.specs.declared.VersionRecord.{VersionRecord}
 use Rattle.state.proofs.Bounds.{sound}
 use Rattle.state.proofs.Kept.{settled-versions}
@@ -96,7 +96,7 @@ plain-begins n q f c k gs =
 
 -- ---- points, delta groups, flags
 
-flag-set : (r : ℕ) (f : Runs) → SetsFlag r f (flagged r f)
+flag-set : (r : ℕ) (f : PerRun Bool) → SetsFlag r f (flagged r f)
 flag-set r f = record { first = λ e. rw e (refl, refl); second = λ e. rw e (refl, refl) }
 
 module _ (d : Desk) (s : Stores) where

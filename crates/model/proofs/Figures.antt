@@ -20,7 +20,7 @@ use Rattle.state.specs.Groups.{groups_in}
 use Rattle.state.specs.Point.{free_point, point_at, with_point}
 use Rattle.state.specs.Selection.{own, with_status, SameVersion, selected}
 use Rattle.state.specs.Valid.{state_ok, point_record_ok, deltas_ok}
-use Rattle.state.specs.declared.DeltaGroups.{DeltaGroups}
+use Rattle.state.specs.declared.PerRun.{PerRun}
 use Rattle.state.specs.declared.PointRecord.{PointRecord}
 use Rattle.state.specs.declared.PointState.{PointState}
 use Rattle.state.specs.declared.Selection.{Selection}
@@ -35,18 +35,18 @@ use Rattle.model.proofs.SeriesTable.{adds-zero, adds-small, adds-net}
 use Rattle.state.proofs.PointTable.{put-other}
 
 -- what one point adds
-abbrev pub part : List PointRecord → DeltaGroups → List VersionRecord → List (List ℤ) → (run k quarter point : ℕ) → ℤ
+abbrev pub part : List PointRecord → PerRun (List ℕ) → List VersionRecord → List (List ℤ) → (run k quarter point : ℕ) → ℤ
 part ps gs vs es run k q p = adds (sides_of (groups_in run gs) (point_at ps p)) k (energy es (selected run p vs) q)
 
 -- delta groups that a run has too
-pub figure-groups : (ps : List PointRecord) (gs hs : DeltaGroups) (vs : List VersionRecord) (es : List (List ℤ)) (run : ℕ) → groups_in run hs ≡ groups_in run gs
+pub figure-groups : (ps : List PointRecord) (gs hs : PerRun (List ℕ)) (vs : List VersionRecord) (es : List (List ℤ)) (run : ℕ) → groups_in run hs ≡ groups_in run gs
     → (k q : ℕ) → figure_of ps gs vs es run k q ≡ figure_of ps hs vs es run k q
 unfolding figure_of
 figure-groups ps gs hs vs es run e k q =
     ap (λ (l : List ℕ). sum_to points (λ (p : ℕ). adds (sides_of l (point_at ps p)) k (energy es (selected run p vs) q))) (sym e)
 
 -- a change of the versions that leaves every selection of the run, but for its status
-pub figure-versions : (ps : List PointRecord) (gs : DeltaGroups) (vs ws : List VersionRecord) (es : List (List ℤ)) (run : ℕ) → ((i : ℕ) → SameVersion (selected run i ws) (selected run i vs))
+pub figure-versions : (ps : List PointRecord) (gs : PerRun (List ℕ)) (vs ws : List VersionRecord) (es : List (List ℤ)) (run : ℕ) → ((i : ℕ) → SameVersion (selected run i ws) (selected run i vs))
     → (k q : ℕ) → figure_of ps gs vs es run k q ≡ figure_of ps gs ws es run k q
 unfolding figure_of energy
 figure-versions ps gs vs ws es run e k q =
@@ -61,7 +61,7 @@ figure-versions ps gs vs ws es run e k q =
     same s t z = bare s ∙ ap (λ (x : Selection). energy es x q) (sym z) ∙ sym (bare t)
 
 -- a point that has no selection may be any
-pub figure-point : (ps : List PointRecord) (gs : DeltaGroups) (vs : List VersionRecord) (es : List (List ℤ)) (p : ℕ) (t : PointRecord) → ((run : ℕ) → selected run p vs ≡ None)
+pub figure-point : (ps : List PointRecord) (gs : PerRun (List ℕ)) (vs : List VersionRecord) (es : List (List ℤ)) (p : ℕ) (t : PointRecord) → ((run : ℕ) → selected run p vs ≡ None)
     → (run k q : ℕ) → figure_of ps gs vs es run k q ≡ figure_of (with_point ps p t) gs vs es run k q
 unfolding figure_of energy
 figure-point ps gs vs es p t n run k q =
@@ -75,7 +75,7 @@ figure-point ps gs vs es p t n run k q =
     go i (no ne) = ap (λ (s : PointState). adds (sides_of (groups_in run gs) s) k (energy es (selected run i vs) q)) (sym (put-other ps p i t ne))
 
 -- a submission more leaves the energies of those before
-pub figure-energies : (ps : List PointRecord) (gs : DeltaGroups) (vs : List VersionRecord) (es : List (List ℤ)) (x : List ℤ) → length es ≡ length vs
+pub figure-energies : (ps : List PointRecord) (gs : PerRun (List ℕ)) (vs : List VersionRecord) (es : List (List ℤ)) (x : List ℤ) → length es ≡ length vs
     → (run k q : ℕ) → figure_of ps gs vs es run k q ≡ figure_of ps gs vs (es ++ (x ∷ [])) run k q
 unfolding figure_of energy
 figure-energies ps gs vs es x l run k q =
@@ -87,14 +87,14 @@ figure-energies ps gs vs es x l run k q =
     go (Selected r) w = ap (λ (y : List ℤ). get_or y q (pos 0)) (sym (get_or-append es (x ∷ []) [] r.at (omega arith)))
 
 -- without selections each figure is 0
-pub figure-none : (ps : List PointRecord) (gs : DeltaGroups) (vs : List VersionRecord) (es : List (List ℤ)) → ((run p : ℕ) → selected run p vs ≡ None) → (run k q : ℕ) → figure_of ps gs vs es run k q ≡ pos 0
+pub figure-none : (ps : List PointRecord) (gs : PerRun (List ℕ)) (vs : List VersionRecord) (es : List (List ℤ)) → ((run p : ℕ) → selected run p vs ≡ None) → (run k q : ℕ) → figure_of ps gs vs es run k q ≡ pos 0
 unfolding figure_of energy
 figure-none ps gs vs es n run k q =
     sum-zero points (part ps gs vs es run k q)
     (λ i lo hi. ap (λ (s : Selection). adds (sides_of (groups_in run gs) (point_at ps i)) k (energy es s q)) (n run i) ∙ adds-zero (sides_of (groups_in run gs) (point_at ps i)) k)
 
 -- a change of the versions of one point
-pub figure-follows : (ps : List PointRecord) (gs : DeltaGroups) (vs ws : List VersionRecord) (es : List (List ℤ)) (p : ℕ) → 1 ≤ p → p ≤ points → ((r i : ℕ) → (i ≡ p → ⊥) → own r i ws ≡ own r i vs)
+pub figure-follows : (ps : List PointRecord) (gs : PerRun (List ℕ)) (vs ws : List VersionRecord) (es : List (List ℤ)) (p : ℕ) → 1 ≤ p → p ≤ points → ((r i : ℕ) → (i ≡ p → ⊥) → own r i ws ≡ own r i vs)
     → (run k q : ℕ) → figure_of ps gs ws es run k q ≡ figure_of ps gs vs es run k q -ℤ part ps gs vs es run k q p +ℤ part ps gs ws es run k q p
 unfolding figure_of
 figure-follows ps gs vs ws es p lo hi e run k q =
@@ -106,7 +106,7 @@ pub state-in : (ps : List PointRecord) → all point_record_ok ps ≡ true → (
 state-in ps ok zero = refl
 state-in ps ok (suc i) = all-at point_record_ok ps i free_point refl ok
 
-module _ (ps : List PointRecord) (gs : DeltaGroups) (vs : List VersionRecord) (es : List (List ℤ)) (in_p : all point_record_ok ps ≡ true) (in_g : deltas_ok gs ≡ true) where
+module _ (ps : List PointRecord) (gs : PerRun (List ℕ)) (vs : List VersionRecord) (es : List (List ℤ)) (in_p : all point_record_ok ps ≡ true) (in_g : deltas_ok gs ≡ true) where
   -- "In both, for each run and quarter hour, the 64 group figures add up to the outside exchange"
   pub groups-sum : (run q : ℕ) → sum_to groups (λ (g : ℕ). figure_of ps gs vs es run (group_row g) q) ≡ outside_of ps vs es run q
   unfolding figure_of outside_of

@@ -14,7 +14,7 @@ use Rattle.quantity.proofs.Tests.{and-left, and-right, within-low}
 use Rattle.state.specs.Desk.{is_open, frame_of, rows_in, log_rows_in, versions_in}
 use Rattle.state.specs.Point.{point_at, is_active}
 use Rattle.state.specs.Valid.{opening_ok, point_record_ok, version_record_ok, deltas_ok, frame_ok, valid_desk}
-use Rattle.state.specs.declared.DeltaGroups.{DeltaGroups}
+use Rattle.state.specs.declared.PerRun.{PerRun}
 use Rattle.state.specs.declared.Desk.{Desk}
 use Rattle.state.specs.declared.Opening.{Opening}
 use Rattle.state.specs.declared.PointRecord.{PointRecord}
@@ -51,7 +51,7 @@ pub record Framed (o : Opening) (e n : ℕ) : Type 0 where
   pub used : n ≤ log_rows_in o
 
 -- so are all delta groups,
-pub record Grouped (gs : DeltaGroups) : Type 0 where
+pub record Grouped (gs : PerRun (List ℕ)) : Type 0 where
   pub each : deltas_ok gs ≡ true
   pub size1 : length gs.first ≡ deltas
   pub size2 : length gs.second ≡ deltas

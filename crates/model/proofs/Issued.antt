@@ -14,7 +14,7 @@ use Rattle.state.specs.Selection.{is_selected, own, version_of, with_status, Sam
 use Rattle.state.specs.Settling.{Settles}
 use Rattle.state.specs.Status.{status_number}
 use Rattle.state.specs.Version.{record_at}
-use Rattle.state.specs.declared.Runs.{Runs}
+use Rattle.state.specs.declared.PerRun.{PerRun}
 use Rattle.state.specs.declared.Selection.{Selection}
 use Rattle.state.specs.declared.Selection.TheVariants.{None, Selected}
 use Rattle.state.specs.declared.Status.TheVariants.{Check}
@@ -127,16 +127,16 @@ module _ (s st : Stores) (l m : List Lent) (d : ℕ) where
 
   -- run 1: exactly what it selected when it was closed gets 3
   pub first-issued : Chained (fresh s) ((l ++ m) ++ (issue 1 ∷ [])) → (step (end (fresh s) (l ++ m)).desk (issue 1)).answer ≡ Accepted → (end (fresh s) l).desk.frame.closed.first ≡ true → Restated 1 3
-  first-issued c e f = running 1 3 c e (first-plain (map told l) (map told m) (told (issue 1)).lengths d (ap (λ (r : Runs). r.first) (sym (flags 1 c)) ∙ f))
+  first-issued c e f = running 1 3 c e (first-plain (map told l) (map told m) (told (issue 1)).lengths d (ap (λ (r : PerRun Bool). r.first) (sym (flags 1 c)) ∙ f))
 
   -- run 2: exactly its own get 5
   pub second-issued : Chained (fresh s) ((l ++ m) ++ (issue 2 ∷ [])) → (step (end (fresh s) (l ++ m)).desk (issue 2)).answer ≡ Accepted → (end (fresh s) l).desk.frame.closed.second ≡ true → Restated 2 5
-  second-issued c e f = running 2 5 c e (second-plain (map told l) (map told m) (told (issue 2)).lengths d (ap (λ (r : Runs). r.second) (sym (flags 2 c)) ∙ f))
+  second-issued c e f = running 2 5 c e (second-plain (map told l) (map told m) (told (issue 2)).lengths d (ap (λ (r : PerRun Bool). r.second) (sym (flags 2 c)) ∙ f))
 
 -- ---- "39, issue of a run already issued"
 
 -- the flag of a run in the table's words
-set-flag : (run : ℕ) (f : Runs) → Set run f → Run run × (flag_of run f ≡ true)
+set-flag : (run : ℕ) (f : PerRun Bool) → Set run f → Run run × (flag_of run f ≡ true)
 set-flag run f (inl p) = (inl p.0, rw p.0 p.1)
 set-flag run f (inr p) = (inr p.0, rw p.0 p.1)
 

@@ -21,7 +21,7 @@ use Rattle.book.proofs.Places.{row-within}
 use Rattle.state.specs.Groups.{groups_in, with_group}
 use Rattle.state.specs.Point.{point_at}
 use Rattle.state.specs.Valid.{state_ok, point_record_ok, deltas_ok}
-use Rattle.state.specs.declared.DeltaGroups.{DeltaGroups}
+use Rattle.state.specs.declared.PerRun.{PerRun}
 use Rattle.state.specs.declared.PointRecord.{PointRecord}
 use Rattle.state.specs.declared.PointState.{PointState}
 use Rattle.state.specs.declared.VersionRecord.{VersionRecord}
@@ -101,7 +101,7 @@ module _ (gs : List ℕ) (ok : all group_ok gs ≡ true) (x g : ℕ) (lt : x < l
       cc (side-moves S.to k v, side-moves S.from k v, apart (T k) (to k (T (delta_row x))) (R k) (to k (R (delta_row x))), move-minus (group_row (get_or gs x 0)) (group_row g) k (T (delta_row x)) (R (delta_row x)))
 
 -- the figures of a run in which a delta has another group
-figure-moves : (gs hs : DeltaGroups) (run x g : ℕ) → all group_ok (groups_in run gs) ≡ true → x < length (groups_in run gs) → groups_in run hs ≡ set (groups_in run gs) x g
+figure-moves : (gs hs : PerRun (List ℕ)) (run x g : ℕ) → all group_ok (groups_in run gs) ≡ true → x < length (groups_in run gs) → groups_in run hs ≡ set (groups_in run gs) x g
     → (ps : List PointRecord) (vs : List VersionRecord) (es : List (List ℤ)) → all point_record_ok ps ≡ true → (k j : ℕ)
     → figure_of ps gs vs es run k j +ℤ move (group_row (get_or (groups_in run gs) x 0)) (group_row g) k (figure_of ps gs vs es run (delta_row x) j) ≡ figure_of ps hs vs es run k j
 unfolding figure_of
@@ -136,7 +136,7 @@ module _ (run q a old new : ℕ) (lo : 1 ≤ run) (hi : run ≤ runs) (in_a : a 
 
 module _ (q x g : ℕ) (in_a : x ≤ areas) (in_g : g ≤ groups) (ps : List PointRecord) (vs : List VersionRecord) (es : List (List ℤ)) (in_p : all point_record_ok ps ≡ true) where
   -- one run
-  booked-run : (run : ℕ) → 1 ≤ run → run ≤ runs → (gs hs : DeltaGroups) → all group_ok (groups_in run gs) ≡ true → x < length (groups_in run gs) → groups_in run hs ≡ set (groups_in run gs) x g
+  booked-run : (run : ℕ) → 1 ≤ run → run ≤ runs → (gs hs : PerRun (List ℕ)) → all group_ok (groups_in run gs) ≡ true → x < length (groups_in run gs) → groups_in run hs ≡ set (groups_in run gs) x g
       → ((r : ℕ) → 1 ≤ r → r ≤ runs → (r ≡ run → ⊥) → groups_in r hs ≡ groups_in r gs) → (book : List ℕ) → Booked q book (figure_of ps gs vs es)
       → Booked q (move_run run q x (get_or (groups_in run gs) x 0) g book) (figure_of ps hs vs es)
   booked-run run lo hi gs hs ok lt e others book B =
@@ -154,11 +154,11 @@ module _ (q x g : ℕ) (in_a : x ≤ areas) (in_g : g ≤ groups) (ps : List Poi
       go r m j a b (no ne) = rw (ne_eqb run r (λ z. ne (sym z))) (+ℤ_idr (F r m j) ∙ figure-groups ps gs hs vs es r (others r a b ne) m j)
 
   -- both runs, or run 2 only
-  pub booked-moved : (gs : DeltaGroups) → deltas_ok gs ≡ true → x < length gs.first → x < length gs.second → (both : Bool) (book : List ℕ) → Booked q book (figure_of ps gs vs es)
+  pub booked-moved : (gs : PerRun (List ℕ)) → deltas_ok gs ≡ true → x < length gs.first → x < length gs.second → (both : Bool) (book : List ℕ) → Booked q book (figure_of ps gs vs es)
       → Booked q (moved both q x g gs book) (figure_of ps (with_group both x g gs) vs es)
   unfolding moved
   booked-moved gs ok lt1 lt2 true book B =
-      let first : DeltaGroups = record { first = set gs.first x g; second = gs.second } in
+      let first : PerRun (List ℕ) = record { first = set gs.first x g; second = gs.second } in
       booked-run 2 (omega arith) (omega arith) first (with_group true x g gs) (deltas-in gs ok 2) lt2 refl (λ r a b ne. let z : r ≡ 1 = omega (arith, ne) in rw z refl) _
       (booked-run 1 (omega arith) (omega arith) gs first (deltas-in gs ok 1) lt1 refl (λ r a b ne. rw (ne_eqb r 1 ne) refl) book B)
   booked-moved gs ok lt1 lt2 false book B =

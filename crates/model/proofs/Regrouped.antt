@@ -10,7 +10,7 @@ use lib.ListN.{set}
 use Rattle.quantity.specs.Lists.{all, fold}
 use Rattle.state.specs.Groups.{alike}
 use Rattle.state.specs.Valid.{point_record_ok, deltas_ok}
-use Rattle.state.specs.declared.DeltaGroups.{DeltaGroups}
+use Rattle.state.specs.declared.PerRun.{PerRun}
 use Rattle.state.specs.declared.PointRecord.{PointRecord}
 use Rattle.state.specs.declared.VersionRecord.{VersionRecord}
 use Rattle.model.specs.Agreement.{Chained, end, fresh, book_figure}
@@ -71,7 +71,7 @@ alike-running s l c z =
 -- ---- "the total of a run does not depend on them"
 
 -- any two assignments of groups, for any points within their limits, versions and energies
-pub any-totals : (ps : List PointRecord) (vs : List VersionRecord) (es : List (List ℤ)) → all point_record_ok ps ≡ true → (gs hs : DeltaGroups) → deltas_ok gs ≡ true → deltas_ok hs ≡ true
+pub any-totals : (ps : List PointRecord) (vs : List VersionRecord) (es : List (List ℤ)) → all point_record_ok ps ≡ true → (gs hs : PerRun (List ℕ)) → deltas_ok gs ≡ true → deltas_ok hs ≡ true
     → (n : ℕ) → SameTotals n (figure_of ps gs vs es) (figure_of ps hs vs es)
 any-totals ps vs es in_p gs hs in_g in_h n run q a b z = groups-sum ps gs vs es in_p in_g run q ∙ sym (groups-sum ps hs vs es in_p in_h run q)
 

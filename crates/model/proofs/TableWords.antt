@@ -26,7 +26,7 @@ use Rattle.state.specs.declared.Opening.{Opening}
 use Rattle.state.specs.declared.PointState.{PointState}
 use Rattle.state.specs.declared.PointState.TheVariants.{Free, Active}
 use Rattle.state.specs.declared.PointRecord.{PointRecord}
-use Rattle.state.specs.declared.Runs.{Runs}
+use Rattle.state.specs.declared.PerRun.{PerRun}
 use Rattle.state.specs.declared.Selection.{Selection}
 use Rattle.state.specs.declared.Selection.TheVariants.{None, Selected}
 use Rattle.state.specs.declared.VersionRecord.{VersionRecord}
@@ -268,13 +268,13 @@ means-deadline o r d run =
 means-unset : (b : Bool) → Means (not b) (b ≡ false)
 means-unset b = record { holds = not-true b; fails = λ e p. true≢false (sym (not-false b e) ∙ p) }
 
-pub means-flag : (s : Runs) (r : ℕ) → (r ≡ 1) ⊎ (r ≡ 2) → Means (flag_of r s) (Set r s)
+pub means-flag : (s : PerRun Bool) (r : ℕ) → (r ≡ 1) ⊎ (r ≡ 2) → Means (flag_of r s) (Set r s)
 means-flag s r run = by-run (λ (t : Bool). cond t s.first s.second) r run (means-test s.first) (means-test s.second)
 
-pub means-unflagged : (s : Runs) (r : ℕ) → (r ≡ 1) ⊎ (r ≡ 2) → Means (not (flag_of r s)) (Unset r s)
+pub means-unflagged : (s : PerRun Bool) (r : ℕ) → (r ≡ 1) ⊎ (r ≡ 2) → Means (not (flag_of r s)) (Unset r s)
 means-unflagged s r run = by-run (λ (t : Bool). not (cond t s.first s.second)) r run (means-unset s.first) (means-unset s.second)
 
-pub means-second : (s : Runs) (r : ℕ) → Means (eqb r 2 && not (flag_of 1 s)) ((r ≡ 2) × (s.first ≡ false))
+pub means-second : (s : PerRun Bool) (r : ℕ) → Means (eqb r 2 && not (flag_of 1 s)) ((r ≡ 2) × (s.first ≡ false))
 means-second s r =
     means-and (eqb r 2) (not s.first) (means-eq r 2)
     (λ _. means-unset s.first)

@@ -17,7 +17,7 @@ use Rattle.state.specs.Selection.{is_counted, own, or_else, selected, IsHighest,
 use Rattle.state.specs.Status.{status_number, counts}
 use Rattle.state.specs.Version.{record_at, is_at}
 use Rattle.state.specs.Within.{StateIn}
-use Rattle.state.specs.declared.DeltaGroups.{DeltaGroups}
+use Rattle.state.specs.declared.PerRun.{PerRun}
 use Rattle.state.specs.declared.PointRecord.{PointRecord}
 use Rattle.state.specs.declared.Selection.{Selection}
 use Rattle.state.specs.declared.Selection.TheVariants.{None, Selected}
@@ -166,7 +166,7 @@ summed ps gs k e x same =
       outsides = λ a. sum-same 256 _ a.outside (λ p lo hi. rw (point-at ps p lo, ← same p lo hi) (series-outside gs k (e p) (a.lines p lo hi)));
     }
 
-pub figured : (ps : List PointRecord) (gs : DeltaGroups) (vs : List VersionRecord) (es : List (List ℤ)) (quarters : ℕ) → Figured ps gs vs quarters (in_list es) (figure_of ps gs vs es) (outside_of ps vs es)
+pub figured : (ps : List PointRecord) (gs : PerRun (List ℕ)) (vs : List VersionRecord) (es : List (List ℤ)) (quarters : ℕ) → Figured ps gs vs quarters (in_list es) (figure_of ps gs vs es) (outside_of ps vs es)
 unfolding figure_of outside_of
 figured ps gs vs es n =
     record {

@@ -112,17 +112,17 @@ deadline o run = cond (eqb run 1) o.clearing.0 o.correction.0
 -- what a call asks of the desk: nothing,
 abbrev pub asking_nothing : Asks
 asking_nothing =
-    record { point = record { 0 = 0 }; series = false; kind = 0; area = 0; partner = 0; versions = false; version = record { 0 = 0 } }
+    record { point = record { 0 = 0 }; series = None; version = None }
 
 -- a point and of all points a series,
 abbrev pub asking_series : (point kind area partner : ℕ) → Asks
 asking_series p k a b =
-    record { point = record { 0 = p }; series = true; kind = k; area = a; partner = b; versions = false; version = record { 0 = 0 } }
+    record { point = record { 0 = p }; series = Some (record { kind = k; area = a; partner = b }); version = None }
 
 -- or a point and its versions, one of them by its number
 abbrev pub asking_versions : (point version : ℕ) → Asks
 asking_versions p x =
-    record { point = record { 0 = p }; series = false; kind = 0; area = 0; partner = 0; versions = true; version = record { 0 = x } }
+    record { point = record { 0 = p }; series = None; version = Some (record { 0 = x }) }
 
 -- ---- what a call is
 

@@ -1,5 +1,5 @@
 -- What an accepted call makes of the running desk and its stores, in any state, and what the plain desk begins with.
-use Rattle.std.specs.Prelude.{ℕ, ◌+◌, ◌-◌, ◌*◌, ◌≤◌, ◌<◌, ◌≡◌, true, false, ◌⊎◌, List, [], ℤ, pos, length, get_or}
+use Rattle.std.specs.Prelude.{ℕ, ◌+◌, ◌-◌, ◌*◌, ◌≤◌, ◌<◌, ◌≡◌, true, false, ◌⊎◌, List, [], ℤ, pos, length, get_or, Bool}
 use Rattle.quantity.specs.Word.{word}
 use Rattle.state.specs.Desk.{versions_in}
 use Rattle.state.specs.Point.{free_point}
@@ -9,7 +9,7 @@ use Rattle.state.specs.Version.{empty_version, record_at}
 use Rattle.state.specs.declared.Desk.{Desk}
 use Rattle.state.specs.declared.PointRecord.{PointRecord}
 use Rattle.state.specs.declared.PointState.TheVariants.{Free}
-use Rattle.state.specs.declared.Runs.{Runs}
+use Rattle.state.specs.declared.PerRun.{PerRun}
 use Rattle.state.specs.declared.Status.{Status}
 use Rattle.state.specs.declared.VersionRecord.{VersionRecord}
 use Rattle.model.specs.Call.{Stores, lengths_of}
@@ -23,7 +23,7 @@ pub record AllFree (points : List PointRecord) : Type 0 where
   pub free : (i : ℕ) → i < 256 → (get_or points i free_point).state ≡ Free
 
 -- neither run's flag is set
-pub record NoFlag (r : Runs) : Type 0 where
+pub record NoFlag (r : PerRun Bool) : Type 0 where
   pub first : r.first ≡ false
   pub second : r.second ≡ false
 
@@ -61,7 +61,7 @@ pub record Begins (w : Worked) : Type 0 where
   pub schedules : (i : ℕ) → i < 64 → get_or w.schedules i [] ≡ []
 
 -- a run's flag is set, and not the other's
-pub record SetsFlag (run : ℕ) (before after : Runs) : Type 0 where
+pub record SetsFlag (run : ℕ) (before after : PerRun Bool) : Type 0 where
   pub first : run ≡ 1 → (after.first ≡ true) × (after.second ≡ before.second)
   pub second : run ≡ 2 → (after.second ≡ true) × (after.first ≡ before.first)
 

@@ -6,9 +6,8 @@ use Rattle.state.specs.Selection.{own, selected, SameVersion, version_of}
 use Rattle.state.specs.Settling.{Settles}
 use Rattle.state.specs.Status.{status_number, is_check}
 use Rattle.state.specs.Version.{record_at, restatus, is_version}
-use Rattle.state.specs.declared.DeltaGroups.{DeltaGroups}
+use Rattle.state.specs.declared.PerRun.{PerRun}
 use Rattle.state.specs.declared.Opening.{Opening}
-use Rattle.state.specs.declared.Runs.{Runs}
 use Rattle.state.specs.declared.Selection.{Selection}
 use Rattle.state.specs.declared.Selection.TheVariants.{None, Selected}
 use Rattle.state.specs.declared.Status.{Status}
@@ -77,7 +76,7 @@ pub record NoticeCounts (clearing point version day : ℕ) (vs ws : List Version
 
 -- what a status tells of its run, document 02: "issue (sets status 3 or 5)". Where run 1 is issued its selection has 3, and where run 2 is its own has
 -- 5; before that 2 and 4, closed or not. Where run 2 has none of its own it tells run 1's, so once both are issued what it selects has 5 or 3
-pub record TellsIssued (issued : Runs) (vs : List VersionRecord) : Type 0 where
+pub record TellsIssued (issued : PerRun Bool) (vs : List VersionRecord) : Type 0 where
   pub first : issued.first ≡ true → (p : ℕ) (r : VersionRow) → selected 1 p vs ≡ Selected r → status_number r.status ≡ 3
   pub first_open : issued.first ≡ false → (p : ℕ) (r : VersionRow) → selected 1 p vs ≡ Selected r → status_number r.status ≡ 2
   pub second : issued.second ≡ true → (p : ℕ) (r : VersionRow) → own 2 p vs ≡ Selected r → status_number r.status ≡ 5
@@ -85,14 +84,14 @@ pub record TellsIssued (issued : Runs) (vs : List VersionRecord) : Type 0 where
   pub both : issued.first ≡ true → issued.second ≡ true → (p : ℕ) (r : VersionRow) → selected 2 p vs ≡ Selected r → (status_number r.status ≡ 5) ⊎ (status_number r.status ≡ 3)
 
 -- how both acts stand to the deadlines: a closed run lies behind its own, since 27 is "day ≤ C (run 1) or ≤ K (run 2)", and an issued one is closed
-pub record ActsInOrder (clearing correction day : ℕ) (closed issued : Runs) : Type 0 where
+pub record ActsInOrder (clearing correction day : ℕ) (closed issued : PerRun Bool) : Type 0 where
   pub first : closed.first ≡ true → clearing < day
   pub second : closed.second ≡ true → correction < day
   pub first_issued : issued.first ≡ true → closed.first ≡ true
   pub second_issued : issued.second ≡ true → closed.second ≡ true
 
 -- a closed run goes on selecting the same version of every point, with perhaps another status
-pub record StaysClosed (closed : Runs) (vs ws : List VersionRecord) : Type 0 where
+pub record StaysClosed (closed : PerRun Bool) (vs ws : List VersionRecord) : Type 0 where
   pub first : closed.first ≡ true → (p : ℕ) → SameVersion (selected 1 p ws) (selected 1 p vs)
   pub second : closed.second ≡ true → (p : ℕ) → SameVersion (selected 2 p ws) (selected 2 p vs)
 
@@ -144,7 +143,7 @@ of_delta gs a k v = in_row (64 + a) k v +ℤ of_group (get_or gs a 0) k v
 -- ---- what an accepted call sets
 
 -- "The opening gives Q, deadlines and store lengths."; document 02: "opening sets both alike"
-pub record Opens (quarters first clearing correction : ℕ) (groups : List ℕ) (n : Lengths) (o : Opening) (gs : DeltaGroups) : Type 0 where
+pub record Opens (quarters first clearing correction : ℕ) (groups : List ℕ) (n : Lengths) (o : Opening) (gs : PerRun (List ℕ)) : Type 0 where
   pub q : o.quarters ≡ quarters
   pub f : o.first.0 ≡ first
   pub c : o.clearing.0 ≡ clearing
@@ -163,7 +162,7 @@ pub record Sets {A : Type 0} (z : A) (at : ℕ) (x : A) (before after : List A) 
   pub size : length after ≡ length before
 
 -- document 02: "Assign up to day C sets both, as before; after C and up to K it sets run 2 only."
-pub record Allots (clearing day area group : ℕ) (before after : DeltaGroups) : Type 0 where
+pub record Allots (clearing day area group : ℕ) (before after : PerRun (List ℕ)) : Type 0 where
   pub early : day ≤ clearing → Sets 0 area group before.first after.first
   pub late : clearing < day → after.first ≡ before.first
   pub second : Sets 0 area group before.second after.second
@@ -182,14 +181,14 @@ pub record Delivers (point version day : ℕ) (energies : List ℤ) (before afte
   pub earlier : (j : ℕ) → j < length before.energies → get_or after.energies j [] ≡ get_or before.energies j []
 
 -- document 02: "close (records that the run is closed)": the run's flag is set and not the other's; no status changes
-pub record Closes (flag other : Runs → Bool) (before after : Worked) : Type 0 where
+pub record Closes (flag other : PerRun Bool → Bool) (before after : Worked) : Type 0 where
   pub closed : flag after.closed ≡ true
   pub apart : other after.closed ≡ other before.closed
   pub issued : after.issued ≡ before.issued
   pub versions : after.versions ≡ before.versions
 
 -- "issue (sets status 3 or 5)": the other flag of the run is set and not the other run's; the versions selected are settled
-pub record Issues (flag other : Runs → Bool) (run status settled : ℕ) (before after : Worked) : Type 0 where
+pub record Issues (flag other : PerRun Bool → Bool) (run status settled : ℕ) (before after : Worked) : Type 0 where
   pub issued : flag after.issued ≡ true
   pub apart : other after.issued ≡ other before.issued
   pub closed : after.closed ≡ before.closed

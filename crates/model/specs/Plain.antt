@@ -1,7 +1,7 @@
 -- The plain desk: "It keeps one list, empty at first. .. All else is worked out by going through the list from its start."
 -- The list stands newest first: what "joins the end" is put in front, and each definition says what the last call makes of what the calls
 -- before it gave, so it goes through the list from its start.
-use Rattle.std.specs.Prelude.{ℕ, zero, suc, ◌-◌, List, [], ◌∷◌, ◌++◌, ℤ, pos, length, get_or, set, replicate, Ok, Err}
+use Rattle.std.specs.Prelude.{ℕ, zero, suc, ◌-◌, List, [], ◌∷◌, ◌++◌, ℤ, pos, length, get_or, set, replicate, Ok, Err, Bool}
 use Rattle.quantity.specs.Limits.{points, deltas, groups as group_count}
 use Rattle.quantity.specs.Lists.{fold}
 use Rattle.quantity.specs.Sum.{sum_to}
@@ -12,10 +12,9 @@ use Rattle.state.specs.Desk.{unopened, no_run, frame_of, flagged}
 use Rattle.state.specs.Groups.{alike, sets_both, with_group}
 use Rattle.state.specs.Point.{free_point, active_point, with_point}
 use Rattle.state.specs.Version.{new_version, held}
-use Rattle.state.specs.declared.DeltaGroups.{DeltaGroups}
+use Rattle.state.specs.declared.PerRun.{PerRun}
 use Rattle.state.specs.declared.Opening.{Opening}
 use Rattle.state.specs.declared.PointRecord.{PointRecord}
-use Rattle.state.specs.declared.Runs.{Runs}
 use Rattle.state.specs.declared.VersionRecord.{VersionRecord}
 use Rattle.model.specs.Call.{Call, opens, activates, deactivates, submits, notices, assigns, shows, asks, closes, issues, lodges, reports, Lengths, Told, Reply}
 use Rattle.model.specs.Causes.{terms, opening_by, refusal, Ruling}
@@ -33,16 +32,16 @@ pub record Worked : Type 0 where
   pub opening : Opening
   pub day : ℕ
   pub points : List PointRecord
-  pub groups : DeltaGroups
+  pub groups : PerRun (List ℕ)
   pub versions : List VersionRecord
   pub energies : List (List ℤ)
   pub log : List LogRow
-  pub closed : Runs
-  pub issued : Runs
+  pub closed : PerRun Bool
+  pub issued : PerRun Bool
   pub schedules : List (List ℤ)
 
 -- the same of its parts
-abbrev pub worked : Opening → (day : ℕ) → List PointRecord → DeltaGroups → List VersionRecord → List (List ℤ) → List LogRow → (closed issued : Runs) → (schedules : List (List ℤ)) → Worked
+abbrev pub worked : Opening → (day : ℕ) → List PointRecord → PerRun (List ℕ) → List VersionRecord → List (List ℤ) → List LogRow → (closed issued : PerRun Bool) → (schedules : List (List ℤ)) → Worked
 worked o d ps gs vs es l c r ss = record { opening = o; day = d; points = ps; groups = gs; versions = vs; energies = es; log = l; closed = c; issued = r; schedules = ss }
 
 -- "one list, empty at first": no group has lodged
@@ -127,7 +126,7 @@ abbrev pub points_of : List Told → List PointRecord
 points_of h = (worked_out h).points
 
 -- its delta groups, for each run
-abbrev pub groups_of : List Told → DeltaGroups
+abbrev pub groups_of : List Told → PerRun (List ℕ)
 groups_of h = (worked_out h).groups
 
 -- its versions
@@ -143,11 +142,11 @@ abbrev pub log_of : List Told → List LogRow
 log_of h = (worked_out h).log
 
 -- its closed runs
-abbrev pub closed_of : List Told → Runs
+abbrev pub closed_of : List Told → PerRun Bool
 closed_of h = (worked_out h).closed
 
 -- its issued runs
-abbrev pub issued_of : List Told → Runs
+abbrev pub issued_of : List Told → PerRun Bool
 issued_of h = (worked_out h).issued
 
 -- its schedules

@@ -6,7 +6,7 @@ use Rattle.book.specs.Place.{group_row, delta_row}
 use Rattle.state.specs.Groups.{groups_in}
 use Rattle.state.specs.Point.{point_at}
 use Rattle.state.specs.Selection.{selected}
-use Rattle.state.specs.declared.DeltaGroups.{DeltaGroups}
+use Rattle.state.specs.declared.PerRun.{PerRun}
 use Rattle.state.specs.declared.PointState.{PointState}
 use Rattle.state.specs.declared.PointState.TheVariants.{Free, Active}
 use Rattle.state.specs.declared.PointRecord.{PointRecord}
@@ -72,7 +72,7 @@ energy es (Selected r) q = get_or (get_or es r.at []) q (pos 0)
 
 -- "A figure is 0 plus what the selected versions' energies add by the table of series, each delta also added to its delta group."; document 02: "each
 -- run under its own delta groups"
-unfoldable pub figure_of : List PointRecord → DeltaGroups → List VersionRecord → List (List ℤ) → (run k quarter : ℕ) → ℤ
+unfoldable pub figure_of : List PointRecord → PerRun (List ℕ) → List VersionRecord → List (List ℤ) → (run k quarter : ℕ) → ℤ
 figure_of ps gs vs es run k q = sum_to points (λ (p : ℕ). adds (sides_of (groups_in run gs) (point_at ps p)) k (energy es (selected run p vs) q))
 
 -- "points of kind 1 with partner 0"

@@ -16,7 +16,7 @@ use Rattle.state.specs.Point.{free_point, active_point, point_at, with_point}
 use Rattle.state.specs.Selection.{or_else}
 use Rattle.state.specs.Valid.{valid_desk}
 use Rattle.state.specs.Version.{new_version, held}
-use Rattle.state.specs.declared.DeltaGroups.{DeltaGroups}
+use Rattle.state.specs.declared.PerRun.{PerRun}
 use Rattle.state.specs.declared.Desk.{Desk}
 use Rattle.state.specs.declared.HeldVersion.{HeldVersion}
 use Rattle.state.specs.declared.PointState.{PointState}
@@ -64,13 +64,13 @@ unfoldable pub amend_run : (run quarters : ℕ) → Sides → (old new : Selecti
 amend_run run q s old new values book = cond (differ old new) (amend_sides run q s old new values book) book
 
 -- both runs of a point, "each run under its own delta groups"
-abbrev pub amend_by : (quarters : ℕ) → DeltaGroups → PointState → Turn → (values : List ℕ) → List ℕ → List ℕ
+abbrev pub amend_by : (quarters : ℕ) → PerRun (List ℕ) → PointState → Turn → (values : List ℕ) → List ℕ → List ℕ
 amend_by q gs here t values book =
     amend_run 2 q (sides_of (groups_in 2 gs) here) (or_else t.old2 t.old1) (or_else t.new2 t.new1) values
     (amend_run 1 q (sides_of (groups_in 1 gs) here) t.old1 t.new1 values book)
 
 -- the book after a change of the versions of a point
-unfoldable pub amended : (quarters : ℕ) → DeltaGroups → PointState → (point : ℕ) (before after : List VersionRecord) (values : List ℕ) → List ℕ → List ℕ
+unfoldable pub amended : (quarters : ℕ) → PerRun (List ℕ) → PointState → (point : ℕ) (before after : List VersionRecord) (values : List ℕ) → List ℕ → List ℕ
 amended q gs here p vs ws values book = amend_by q gs here (turn_of vs ws p) values book
 
 -- "The delta moves to the group": out of the old group's row, into the new one's
@@ -80,7 +80,7 @@ move_run run q a old new book =
     (row_start q run (group_row new)) q book (row_start q run (delta_row a))
 
 -- "in both runs"; document 02: "after C and up to K .. run 2 only"; each out of its own old group
-unfoldable pub moved : (both : Bool) (quarters area new : ℕ) → DeltaGroups → List ℕ → List ℕ
+unfoldable pub moved : (both : Bool) (quarters area new : ℕ) → PerRun (List ℕ) → List ℕ → List ℕ
 moved both q a new gs book =
     move_run 2 q a (get_or (groups_in 2 gs) a 0) new (cond both (move_run 1 q a (get_or (groups_in 1 gs) a 0) new book) book)
 

@@ -1,6 +1,6 @@
 -- The table of causes of documents 01 and 02, for each call its lines from top to bottom: the number, and in the papers' words when it holds. What
 -- both desks share, the tests of `terms`, is judged by it.
-use Rattle.std.specs.Prelude.{ℕ, ◌+◌, ◌*◌, ◌%◌, ◌≤◌, ◌<◌, ◌≡◌, true, false, cond, ◌⊎◌, List, [], ◌∷◌, ◌++◌, eqb, ℤ, pos, nat_abs, length, get_or}
+use Rattle.std.specs.Prelude.{ℕ, ◌+◌, ◌*◌, ◌%◌, ◌≤◌, ◌<◌, ◌≡◌, true, false, cond, ◌⊎◌, List, [], ◌∷◌, ◌++◌, eqb, ℤ, pos, nat_abs, length, get_or, Bool}
 use Rattle.quantity.specs.Lists.{any}
 use Rattle.quantity.specs.Meaning.{Between, Each, Among}
 use Rattle.state.specs.Point.{free_point}
@@ -11,7 +11,7 @@ use Rattle.state.specs.declared.Desk.{Desk}
 use Rattle.state.specs.declared.Frame.{Frame}
 use Rattle.state.specs.declared.PointState.TheVariants.{Active}
 use Rattle.state.specs.declared.PointRecord.{PointRecord}
-use Rattle.state.specs.declared.Runs.{Runs}
+use Rattle.state.specs.declared.PerRun.{PerRun}
 use Rattle.state.specs.declared.VersionRecord.{VersionRecord}
 use Rattle.model.specs.Call.{Call, opens, activates, deactivates, submits, notices, assigns, shows, asks, closes, issues, lodges, reports, Lengths, cause_number}
 use Rattle.model.specs.View.{View, view_of}
@@ -92,11 +92,11 @@ abbrev pub NoneLeft : Frame → Type 0
 NoneLeft f = f.opening.log < 4 * (f.used + 1)
 
 -- the run's flag is set: "already closed", "already issued"
-abbrev pub Set : (run : ℕ) → Runs → Type 0
+abbrev pub Set : (run : ℕ) → PerRun Bool → Type 0
 Set r s = ((r ≡ 1) × (s.first ≡ true)) ⊎ ((r ≡ 2) × (s.second ≡ true))
 
 -- it is not: "not closed"
-abbrev pub Unset : (run : ℕ) → Runs → Type 0
+abbrev pub Unset : (run : ℕ) → PerRun Bool → Type 0
 Unset r s = ((r ≡ 1) × (s.first ≡ false)) ⊎ ((r ≡ 2) × (s.second ≡ false))
 
 -- ---- the table

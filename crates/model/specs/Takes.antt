@@ -7,7 +7,7 @@ use Rattle.state.specs.Desk.{versions_in}
 use Rattle.state.specs.Point.{free_point, active_point}
 use Rattle.state.specs.Status.{status_number}
 use Rattle.state.specs.Version.{record_at}
-use Rattle.state.specs.declared.DeltaGroups.{DeltaGroups}
+use Rattle.state.specs.declared.PerRun.{PerRun}
 use Rattle.state.specs.declared.Desk.{Desk}
 use Rattle.state.specs.declared.PointRecord.{PointRecord}
 use Rattle.state.specs.declared.PointState.{PointState}
@@ -77,7 +77,7 @@ pub record IsSum (ps : List PointRecord) (groups : List ℕ) (k : ℕ) (energy :
 
 -- "A figure is 0 plus what the selected versions' energies add by the table of series"; "The outside exchange of a run and quarter hour is the sum of the
 -- energies there of the versions that the list selects for the run"; document 02: "each run under its own delta groups". Quarter hours are counted from 0
-pub record Figured (ps : List PointRecord) (gs : DeltaGroups) (vs : List VersionRecord) (quarters : ℕ) (reads : (quarter index : ℕ) → ℤ) (figure : (run k quarter : ℕ) → ℤ) (outside : (run quarter : ℕ) → ℤ) : Type 0 where
+pub record Figured (ps : List PointRecord) (gs : PerRun (List ℕ)) (vs : List VersionRecord) (quarters : ℕ) (reads : (quarter index : ℕ) → ℤ) (figure : (run k quarter : ℕ) → ℤ) (outside : (run quarter : ℕ) → ℤ) : Type 0 where
   pub first : (k q : ℕ) → k < 81 → q < quarters → (t : Taken (TakesFirst vs (reads q))) → IsSum ps gs.first k t.energy (figure 1 k q) (outside 1 q)
   pub second : (k q : ℕ) → k < 81 → q < quarters → (t : Taken (TakesSecond vs (reads q))) → IsSum ps gs.second k t.energy (figure 2 k q) (outside 2 q)
 
@@ -115,7 +115,7 @@ Follows gs s k old new before after =
     (x y o u : ℤ) → Line gs k old s x o → Line gs k new s y u → after ≡ word (signed before +ℤ (y -ℤ x))
 
 -- each number of the book of Q quarter hours, by what its run takes of point p of the versions before and after, both read from the values as they are then
-pub record Amends (q : ℕ) (gs : DeltaGroups) (s : PointState) (p : ℕ) (vs ws : List VersionRecord) (values before after : List ℕ) : Type 0 where
+pub record Amends (q : ℕ) (gs : PerRun (List ℕ)) (s : PointState) (p : ℕ) (vs ws : List VersionRecord) (values before after : List ℕ) : Type 0 where
   pub first : (k j : ℕ) → k < 81 → j < q → (old new : ℤ) → TakesFirst vs (in_rows q values vs j) p old → TakesFirst ws (in_rows q values ws j) p new
       → Follows gs.first s k old new (get_or before (k * q + j) 0) (get_or after (k * q + j) 0)
   pub second : (k j : ℕ) → k < 81 → j < q → (old new : ℤ) → TakesSecond vs (in_rows q values vs j) p old → TakesSecond ws (in_rows q values ws j) p new

@@ -6,7 +6,7 @@ ghost use Rattle.std.specs.Prelude.{◌≡◌};
 ghost use Rattle.model.specs.Call.{cause_number, answer_number};
 
 use quantity::{Day, PointNo, Version};
-use state::{Selection, Status};
+use state::{Selection, Series, Status};
 
 // Why a call is refused, in the order of the table, with its number there. A01 to A05 are the codes of the published decision trees.
 #[derive(Clone, Copy)]
@@ -72,17 +72,13 @@ impl From<Answer> for u64 {
     }
 }
 
-// What a call asks of the desk: a point, 0 where there is none; whether an active point has a series; whether the point has versions, and one of
-// them by its number.
+// What a call asks of the desk: a point, 0 where there is none; whether an active point has a series; the point's versions, and one of them by its
+// number.
 #[derive(Clone, Copy)]
 pub struct Asks {
     pub point: PointNo,
-    pub series: bool,
-    pub kind: u64,
-    pub area: u64,
-    pub partner: u64,
-    pub versions: bool,
-    pub version: Version,
+    pub series: Option<Series>,
+    pub version: Option<Version>,
 }
 
 // Run 1's selection and run 2's own for a point, before and after a call.

@@ -88,11 +88,11 @@ fn notice_ruling(
     refuse_if(!is_open(o), Cause::NotOpen)?;
     refuse_if(other_lengths(o, n), Cause::WrongLength)?;
     refuse_if(!notice_ok(point, version, verdict, day), Cause::BadField)?;
-    refuse_if(day.0 < f.day.0, Cause::PastDay)?;
-    refuse_if(o.correction.0 < day.0, Cause::AfterCorrection)?;
+    refuse_if(day < f.day, Cause::PastDay)?;
+    refuse_if(o.correction < day, Cause::AfterCorrection)?;
     refuse_if(!is_active(l.here), Cause::NotActive)?;
     refuse_if(l.survey.held.is_none(), Cause::NoVersion)?;
-    refuse_if(version.0 < l.survey.highest.0, Cause::NoticeBelow)?;
+    refuse_if(version < l.survey.highest, Cause::NoticeBelow)?;
     refuse_if(not_check(l.survey.held), Cause::NotCheckData)?;
     refuse_if(log_full(f.used, o.log, due), Cause::NoLogRow)
 }

@@ -18,7 +18,7 @@ use Rattle.state.specs.Selection.{selected}
 use Rattle.state.specs.declared.Selection.{Selection}
 use Rattle.state.specs.declared.VersionRecord.{VersionRecord}
 use Rattle.checks.specs.Picks.{no_picks, selected_in, PicksIn}
-use Rattle.checks.specs.declared.PointPicks.{PointPicks}
+use Rattle.state.specs.declared.PerRun.{PerRun}
 use Rattle.text.specs.Line.{answer_line, group_line, total_line}
 use Rattle.text.specs.Text.{each_to}
 use Rattle.text.proofs.Texts.{each-same}
@@ -66,25 +66,25 @@ pub total-read : (s : List ℕ) (q run quarter : ℕ) (w : ℕ) → Summed s q �
 total-read s q run quarter w S p e = ap (λ (x : ℕ). total_line run quarter (signed x)) e ∙ ap (total_line run quarter) (S run quarter p)
 
 -- the next point's selection by the table of picks
-pub pick-next : (run : ℕ) (t : List PointPicks) (i : ℕ) (s : Selection) → s ≡ selected_in run (get_or t i no_picks) → selection_text run (i + 1) s ≡ pick_text run t (i + 1)
+pub pick-next : (run : ℕ) (t : List (PerRun Selection)) (i : ℕ) (s : Selection) → s ≡ selected_in run (get_or t i no_picks) → selection_text run (i + 1) s ≡ pick_text run t (i + 1)
 pick-next run t i s e =
     let n : i + 1 - 1 ≡ i = omega arith in
     rw n (ap (selection_text run (i + 1)) e)
 
 -- the table's picks are the selections
-pub picks-read : (run : ℕ) (vs : List VersionRecord) (t : List PointPicks) → PicksIn vs t → picks_text run t ≡ each_to points (λ (p : ℕ). selection_text run p (selected run p vs))
+pub picks-read : (run : ℕ) (vs : List VersionRecord) (t : List (PerRun Selection)) → PicksIn vs t → picks_text run t ≡ each_to points (λ (p : ℕ). selection_text run p (selected run p vs))
 picks-read run vs t k =
     each-same points (pick_text run t) (λ (p : ℕ). selection_text run p (selected run p vs))
     (λ p lo hi.
     let n : suc (p - 1) ≡ p = omega arith in
-    ap (λ (x : PointPicks). selection_text run p (selected_in run x)) (k.each (p - 1) (omega arith)) ∙ ap (λ (m : ℕ). selection_text run p (selected run m vs)) n)
+    ap (λ (x : PerRun Selection). selection_text run p (selected_in run x)) (k.each (p - 1) (omega arith)) ∙ ap (λ (m : ℕ). selection_text run p (selected run m vs)) n)
 
 -- run 1, then run 2
 each-run : (f : ℕ → List ℕ) → f 1 ++ f 2 ≡ each_to runs f
 unfolding each_to
 each-run f = refl
 
-pub selections-read : (vs : List VersionRecord) (t : List PointPicks) → PicksIn vs t → picks_text 1 t ++ picks_text 2 t ≡ selections_text vs
+pub selections-read : (vs : List VersionRecord) (t : List (PerRun Selection)) → PicksIn vs t → picks_text 1 t ++ picks_text 2 t ≡ selections_text vs
 unfolding selections_text
 selections-read vs t k =
     ap₂ (λ (x y : List ℕ). x ++ y) (picks-read 1 vs t k) (picks-read 2 vs t k)

@@ -1,9 +1,10 @@
 -- What the parts of the code ask and give: answers of two digits, the stores' sizes, and the text behind the answers.
+use Rattle.state.specs.declared.Selection.{Selection}
 use Rattle.std.specs.Prelude.{ℕ, ◌+◌, ◌-◌, ◌<◌, ◌≡◌, List, [], ◌++◌, ℤ, length, get_or}
 use Rattle.quantity.specs.Limits.{points}
 use Rattle.state.specs.declared.VersionRecord.{VersionRecord}
 use Rattle.checks.specs.Picks.{no_picks, selected_in}
-use Rattle.checks.specs.declared.PointPicks.{PointPicks}
+use Rattle.state.specs.declared.PerRun.{PerRun}
 use Rattle.message.specs.Cause.{cause_number}
 use Rattle.replay.specs.declared.Ending.{Ending}
 use Rattle.replay.specs.declared.Ending.TheVariants.{End, Refused, Full}
@@ -26,11 +27,11 @@ pub record Sized (v b l p s a : List ℕ) : Type 0 where
   pub answers : length a ≡ most_calls + 1
 
 -- a point's selection in a run by a table of picks: point 1 at 0, point 2 at 1, and so on
-abbrev pub pick_text : (run : ℕ) → List PointPicks → (point : ℕ) → List ℕ
+abbrev pub pick_text : (run : ℕ) → List (PerRun Selection) → (point : ℕ) → List ℕ
 pick_text run t p = selection_text run p (selected_in run (get_or t (p - 1) no_picks))
 
 -- those of all points
-abbrev pub picks_text : (run : ℕ) → List PointPicks → List ℕ
+abbrev pub picks_text : (run : ℕ) → List (PerRun Selection) → List ℕ
 picks_text run t = each_to points (pick_text run t)
 
 -- the text behind the answers, by how a replay ended: its refusal, or the figures and the selections

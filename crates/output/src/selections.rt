@@ -6,11 +6,10 @@ ghost use Rattle.output.specs.Fill.{selection_room, run_room, selections_room};
 ghost use Rattle.output.specs.Parts.{picks_text};
 ghost use Rattle.output.specs.Output.{selection_text, selections_text};
 
-use checks::PointPicks;
 use checks::picks::{picks_of, selected_in};
 use quantity::limits;
 use quantity::limits::VERSIONS;
-use state::{Selection, VersionRecord};
+use state::{PerRun, Selection, VersionRecord};
 use text::Text;
 
 const POINTS: usize = limits::POINTS as usize;
@@ -26,7 +25,7 @@ fn put_selection(text: &mut Text, run: u64, point: usize, s: Selection)
 }
 
 // What a run selects of each point, points rising.
-fn put_picks(text: &mut Text, picks: &[PointPicks; POINTS], run: u64)
+fn put_picks(text: &mut Text, picks: &[PerRun<Selection>; POINTS], run: u64)
     requires { (length picks.now ≡ points) × (text.old.filled + run_room ≤ length text.old.buffer.now) }
     ensures { Puts run_room (picks_text run picks.now) text.old text.new }
 {

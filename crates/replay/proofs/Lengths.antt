@@ -13,7 +13,7 @@ use Rattle.book.specs.declared.Way.{Way}
 use Rattle.book.specs.declared.Way.TheVariants.{In, Out}
 use Rattle.book.proofs.Rows.{length-zip}
 use Rattle.state.specs.Selection.{own, or_else}
-use Rattle.state.specs.declared.DeltaGroups.{DeltaGroups}
+use Rattle.state.specs.declared.PerRun.{PerRun}
 use Rattle.state.specs.declared.PointState.{PointState}
 use Rattle.state.specs.declared.Selection.{Selection}
 use Rattle.state.specs.declared.Selection.TheVariants.{None, Selected}
@@ -61,7 +61,7 @@ module _ (q : ℕ) (values : List ℕ) where
       by-test (λ (l : List ℕ). length l ≡ length book) (differ old new) _ book (λ _. amend-sides run old new s book) (λ _. refl)
 
   -- a change of the versions of a point
-  pub length-amended : (gs : DeltaGroups) (here : PointState) (p : ℕ) (vs ws : List VersionRecord) (book : List ℕ) → length (amended q gs here p vs ws values book) ≡ length book
+  pub length-amended : (gs : PerRun (List ℕ)) (here : PointState) (p : ℕ) (vs ws : List VersionRecord) (book : List ℕ) → length (amended q gs here p vs ws values book) ≡ length book
   unfolding amended
   length-amended gs here p vs ws book =
       amend-run 2 (sides_of gs.second here) (or_else (own 2 p vs) (own 1 p vs)) (or_else (own 2 p ws) (own 1 p ws)) _ ∙ amend-run 1 (sides_of gs.first here) (own 1 p vs) (own 1 p ws) book
@@ -71,7 +71,7 @@ unfolding move_run
 move-run run q a old new book = length-posted In _ _ q book _ ∙ length-posted Out book _ q book _
 
 -- a delta that moves to another group
-pub length-moved : (both : Bool) (q a new : ℕ) (gs : DeltaGroups) (book : List ℕ) → length (moved both q a new gs book) ≡ length book
+pub length-moved : (both : Bool) (q a new : ℕ) (gs : PerRun (List ℕ)) (book : List ℕ) → length (moved both q a new gs book) ≡ length book
 unfolding moved
 length-moved both q a new gs book =
     move-run 2 q a _ new _ ∙ by-test (λ (l : List ℕ). length l ≡ length book) both _ book (λ _. move-run 1 q a _ new book) (λ _. refl)

@@ -20,12 +20,11 @@ use Rattle.message.proofs.Calls.{parse-read}
 use Rattle.message.proofs.Files.{calls-none, calls-next, calls-stop}
 use Rattle.message.proofs.Placed.{offset-is}
 use Rattle.state.specs.declared.Desk.{Desk}
-use Rattle.model.specs.Agreement.{Running}
-use Rattle.model.specs.Call.{Call, Stores, answer_number}
+use Rattle.model.specs.Call.{answer_number}
 use Rattle.model.specs.declared.Answer.{Answer}
 use Rattle.checks.specs.Stepped.{stores_of}
 use Rattle.message.specs.Series.{filled}
-use Rattle.reader.specs.Reader.{padded, read_at, series_after}
+use Rattle.reader.specs.Reader.{Reading, padded, read_at, series_after}
 use Rattle.std.specs.Prelude.{Some, None, Ok, Err}
 use Rattle.message.specs.declared.FileRefusal.{FileRefusal}
 use Rattle.reader.specs.declared.CallRead.{CallRead}
@@ -34,15 +33,11 @@ use Rattle.dispatch.specs.Asked.{asked}
 use Rattle.replay.specs.Given.{given_in}
 use Rattle.replay.specs.Play.{Playing, played, play}
 use Rattle.replay.specs.Replay.{calls_for, ending_of}
-use Rattle.replay.specs.Run.{running_of, Handed, playing_of, Ran}
+use Rattle.replay.specs.Run.{running_of, Handed, playing_of, ended_by, Ran}
 use Rattle.replay.specs.declared.Ending.{Ending as EndingOf}
 use Rattle.replay.specs.declared.Ending.TheVariants.{End, Refused, Full}
 use Rattle.replay.proofs.Reached.{Reached, reached-next}
 use Rattle.replay.proofs.Sendings.{same-call}
-
--- the desk after a call, said otherwise
-pub handed-as : {r : Running} {c : Call} {answer : Answer} {d n : Desk} {s : Stores} → n ≡ d → Handed r c answer (running_of d s) → Handed r c answer (running_of n s)
-handed-as e h = record { answered = h.answered; running = rw e h.running }
 
 -- stores and buffers of the same lengths
 pub record Sized (p q : Playing) : Type 0 where
@@ -142,7 +137,7 @@ module _ {s : List ℕ} {start p : Playing} {at : ℕ} (w : Going s start p at) 
   -- it is answered
   pub again : {x : ℕ} {read : CallRead} {series : List ℕ} {answer : Answer} {desk : Desk} {values book log schedules : List ℕ} → p.answered < length start.answers →
       read_at s at (length p.series) ≡ Ok (Some read) → series ≡ series_after s at p.series →
-      Handed p.running (asked read.call read.groups (map signed (take (read.count - 0) series))) answer (running_of desk (stores_of values book log schedules)) → x ≡ answer_number answer →
+      Handed p.running (asked read.call read.groups (map signed (take read.count series))) answer (running_of desk (stores_of values book log schedules)) → x ≡ answer_number answer →
       Sized p (playing_of desk (stores_of values book log schedules) series (set p.answers p.answered x) (p.answered + 1)) →
       Going s start (playing_of desk (stores_of values book log schedules) series (set p.answers p.answered x) (p.answered + 1)) read.next
   unfolding played
@@ -191,3 +186,10 @@ module _ {s : List ℕ} {start p : Playing} {at : ℕ} (w : Going s start p at) 
       let c : calls_in (length start.series) (drop at s) ≡ stop (drop at s) r.cause = rw w.sized.series at g.0 in
       rw (f ∙ reader-keeps s at p.series e)
       (done (rw (c, take-nil)) (rw (c, g.1, offset-is s at w.inside, le-leb 1 (length start.answers - p.answered) (omega arith))))
+
+  -- no call is read
+  pub unread : (t : Reading) {series : List ℕ} → p.answered < length start.answers → ((r : CallRead) → t ≡ Ok (Some r) → ⊥) → read_at s at (length p.series) ≡ t →
+      series ≡ series_after s at p.series → Ran s start (record { running = p.running; series = series; answers = p.answers; answered = p.answered }) (ended_by t)
+  unread (Ok (Some r)) h o e f = absurd (o r refl)
+  unread (Ok None) h o e f = ended h e f
+  unread (Err r) h o e f = left-off h e f

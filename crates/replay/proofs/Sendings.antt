@@ -1,6 +1,6 @@
 -- A call as the reader gives it, its energies as words, is the call of the file. Assumes nothing.
-use Prim.Native.Nat.{ℕ, ◌-◌, ◌^◌, ◌≤◌}
-use mathlib.Core.Path.{◌≡◌, refl, ◌∙◌}
+use Prim.Native.Nat.{ℕ, ◌^◌, ◌≤◌}
+use mathlib.Core.Path.{◌≡◌, refl}
 use mathlib.Core.Bool.{true}
 use mathlib.Core.List.{List, [], ◌∷◌, map}
 use native.Mathlib.Omega.{arith}
@@ -35,12 +35,12 @@ energies-back [] h = refl
 energies-back (z ∷ es) h = rw (energy-back z (and-left (fits_energy z) _ h), energies-back es (and-right (fits_energy z) _ h))
 
 -- the first places of a buffer that was filled
-filled-part : (es : List ℤ) (series : List ℕ) → take (length es - 0) (filled es series) ≡ map word es
-filled-part es series = take_at (map word es) (drop (length es) series) (length es - 0) (length-map es word ∙ omega arith)
+filled-part : (es : List ℤ) (series : List ℕ) → take (length es) (filled es series) ≡ map word es
+filled-part es series = take_at (map word es) (drop (length es) series) (length es) (length-map es word)
 
 -- a call that the reader gives, its energies as words, is the call of the file
 pub same-call : (c : Sent) → Carried c → (series : List ℕ) (d : DeskCall) {n : ℕ} {groups gs after : List ℕ} → n ≡ length c.energies → groups ≡ gs →
-    after ≡ filled c.energies series → asked d groups (map signed (take (n - 0) after)) ≡ given (record { call = d; groups = gs; energies = c.energies })
+    after ≡ filled c.energies series → asked d groups (map signed (take n after)) ≡ given (record { call = d; groups = gs; energies = c.energies })
 same-call c w series d b f g =
     let fits = and-right (leb (length c.energies) most_quarters) _ (and-right (all fits_number c.fields) _ w.fits) in
     rw (b, f, g, filled-part c.energies series, energies-back c.energies fits)

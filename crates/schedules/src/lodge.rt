@@ -40,8 +40,8 @@ pub fn lodge_ruling(d: Desk, size: u64, group: u64, day: Day, series: &[u64]) ->
     refuse_if(size != opening.schedules, Cause::WrongLength)?;
     let fits = lodge_ok(group, day, opening.quarters, series);
     refuse_if(!fits, Cause::BadField)?;
-    refuse_if(day.0 < d.frame.day.0, Cause::PastDay)?;
-    refuse_if(opening.clearing.0 < day.0, Cause::TooLate)
+    refuse_if(day < d.frame.day, Cause::PastDay)?;
+    refuse_if(opening.clearing < day, Cause::TooLate)
 }
 
 // The schedules and the desk after a lodging that is not refused: group g has row g - 1.

@@ -18,7 +18,7 @@ use Rattle.state.specs.Groups.{groups_in}
 use Rattle.state.specs.Point.{free_point, point_at, series_ok}
 use Rattle.state.specs.Valid.{opening_ok, state_ok, point_record_ok, version_record_ok, deltas_ok, frame_ok, valid_desk, SeriesIn, Sound}
 use Rattle.state.specs.Version.{empty_version}
-use Rattle.state.specs.declared.DeltaGroups.{DeltaGroups}
+use Rattle.state.specs.declared.PerRun.{PerRun}
 use Rattle.state.specs.declared.Desk.{Desk}
 use Rattle.state.specs.declared.Opening.{Opening}
 
@@ -51,7 +51,7 @@ module _ (o : Opening) (low : 1 ≤ o.quarters) where
   fit-rows n h = (le-div_iff_mul-le {k = o.quarters} {x = n} {y = o.values} (omega arith)).1 h
 
 -- the delta groups of each run
-pub deltas-in : (gs : DeltaGroups) → deltas_ok gs ≡ true → (run : ℕ) → all group_ok (groups_in run gs) ≡ true
+pub deltas-in : (gs : PerRun (List ℕ)) → deltas_ok gs ≡ true → (run : ℕ) → all group_ok (groups_in run gs) ≡ true
 unfolding deltas_ok
 deltas-in gs h run =
     by-test (λ (l : List ℕ). all group_ok l ≡ true) (eqb run 1) gs.first gs.second (λ _. and-left (all group_ok gs.first) _ h) (λ _. and-right (all group_ok gs.first) _ h)

@@ -7,6 +7,7 @@ use native.Mathlib.Nat.{le-div_iff_mul-le}
 use native.Mathlib.Omega.{arith}
 use borrow.Author.Tests.{leb-true, le-leb}
 use lib.Dec.{leb, ltb, eqb}
+use mathlib.Core.List.{List}
 use Rattle.quantity.specs.Limits.{quarters_ok, deadlines_ok, day_ok, area_ok, group_ok, point_ok, version_ok}
 use Rattle.quantity.specs.Lists.{all}
 use Rattle.quantity.specs.Meaning.{Means, Between}
@@ -17,7 +18,7 @@ use Rattle.state.specs.Point.{free_point, series_ok}
 use Rattle.state.specs.Valid.{opening_ok, state_ok, point_record_ok, version_record_ok, deltas_ok, frame_ok, valid_desk}
 use Rattle.state.specs.Version.{empty_version}
 use Rattle.state.specs.Within.{InTable, OpeningIn, StateIn, RecordIn, Within}
-use Rattle.state.specs.declared.DeltaGroups.{DeltaGroups}
+use Rattle.state.specs.declared.PerRun.{PerRun}
 use Rattle.state.specs.declared.Desk.{Desk}
 use Rattle.state.specs.declared.Opening.{Opening}
 use Rattle.state.specs.declared.PointState.{PointState}
@@ -121,5 +122,5 @@ means-valid d =
     o : Opening
     o = d.frame.opening
 
-    gs : DeltaGroups
+    gs : PerRun (List ℕ)
     gs = d.frame.groups

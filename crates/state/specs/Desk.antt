@@ -4,20 +4,19 @@ use Rattle.quantity.specs.Limits.{points, versions, deltas}
 use Rattle.state.specs.Groups.{alike}
 use Rattle.state.specs.Point.{free_point}
 use Rattle.state.specs.Version.{empty_version}
-use Rattle.state.specs.declared.DeltaGroups.{DeltaGroups}
+use Rattle.state.specs.declared.PerRun.{PerRun}
 use Rattle.state.specs.declared.Desk.{Desk}
 use Rattle.state.specs.declared.Frame.{Frame}
 use Rattle.state.specs.declared.Opening.{Opening}
 use Rattle.state.specs.declared.PointRecord.{PointRecord}
-use Rattle.state.specs.declared.Runs.{Runs}
 use Rattle.state.specs.declared.VersionRecord.{VersionRecord}
 
 -- what stands beside the tables, of its parts
-abbrev pub frame_of : Opening → (day : ℕ) (groups : DeltaGroups) (count used : ℕ) (closed issued : Runs) → Frame
+abbrev pub frame_of : Opening → (day : ℕ) (groups : PerRun (List ℕ)) (count used : ℕ) (closed issued : PerRun Bool) → Frame
 frame_of o day gs n m c s = record { opening = o; day = record { 0 = day }; groups = gs; count = n; used = m; closed = c; issued = s }
 
 -- no run is closed, and none is issued
-abbrev pub no_run : Runs
+abbrev pub no_run : PerRun Bool
 no_run = record { first = false; second = false }
 
 -- "no versions, no log rows used"; "The desk's day is 0 at opening."; document 02: "opening sets both alike"
@@ -71,10 +70,10 @@ rows_used f = f.count
 -- one thing of the desk, as it is then; of the version table the first `count` records are held
 pub data Thing : Type 0 where
   the_day : (day : ℕ) → Thing
-  the_groups : DeltaGroups → Thing
+  the_groups : PerRun (List ℕ) → Thing
   the_used : (used : ℕ) → Thing
-  the_closed : Runs → Thing
-  the_issued : Runs → Thing
+  the_closed : PerRun Bool → Thing
+  the_issued : PerRun Bool → Thing
   the_points : List PointRecord → Thing
   the_versions : (count : ℕ) → List VersionRecord → Thing
 
@@ -100,9 +99,9 @@ desk_with d (the_versions n vs) =
 -- ---- flags
 
 -- the run's flag
-abbrev pub flag_of : (run : ℕ) → Runs → Bool
+abbrev pub flag_of : (run : ℕ) → PerRun Bool → Bool
 flag_of run s = cond (eqb run 1) s.first s.second
 
 -- the flags with that of the run set
-abbrev pub flagged : (run : ℕ) → Runs → Runs
+abbrev pub flagged : (run : ℕ) → PerRun Bool → PerRun Bool
 flagged run s = record { first = eqb run 1 || s.first; second = eqb run 2 || s.second }

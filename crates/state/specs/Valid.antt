@@ -1,11 +1,11 @@
 -- Cause 1: "desk not open, or a count, row number, Q, deadline, day, delta group, opening length, or field of a point or version record in
 -- its state outside the limits above, used rows past the opening lengths included"
-use Rattle.std.specs.Prelude.{ℕ, ◌*◌, ◌%◌, ◌≤◌, ◌≡◌, Bool, true, ◌&&◌, leb, ltb, eqb}
+use Rattle.std.specs.Prelude.{ℕ, ◌*◌, ◌%◌, ◌≤◌, ◌≡◌, Bool, true, ◌&&◌, leb, ltb, eqb, List}
 use Rattle.quantity.specs.Limits.{most_quarters, areas, groups as group_count, last_day, book_rows, schedule_rows, versions, quarters_ok, day_ok, deadlines_ok, version_ok, point_ok, group_ok}
 use Rattle.quantity.specs.Lists.{all}
 use Rattle.state.specs.Desk.{rows_in, log_rows_in, versions_in, rows_used}
 use Rattle.state.specs.Point.{series_ok}
-use Rattle.state.specs.declared.DeltaGroups.{DeltaGroups}
+use Rattle.state.specs.declared.PerRun.{PerRun}
 use Rattle.state.specs.declared.Desk.{Desk}
 use Rattle.state.specs.declared.Frame.{Frame}
 use Rattle.state.specs.declared.Opening.{Opening}
@@ -38,7 +38,7 @@ abbrev pub version_record_ok : (rows : ℕ) → VersionRecord → Bool
 version_record_ok n v = point_ok v.point.0 && (version_ok v.version.0 && ltb v.row.0 n)
 
 -- the delta groups of both runs
-unfoldable pub deltas_ok : DeltaGroups → Bool
+unfoldable pub deltas_ok : PerRun (List ℕ) → Bool
 deltas_ok gs = all group_ok gs.first && all group_ok gs.second
 
 -- all but the two tables: what the opening fixed, day, delta groups, the counts, "used rows past the opening lengths included"

@@ -15,22 +15,22 @@ use crate::fresh::open_frame;
 use crate::groups::{sets_both, with_group};
 use crate::statuses::submitted_status;
 use crate::{
-    Area, Effect, Frame, Kind, Opening, Partner, PointRecord, PointState, Row, Runs, ShortDay,
-    ShortPoint, Status, Tables, VersionRecord,
+    Area, Effect, Frame, Kind, Opening, Partner, PerRun, PointRecord, PointState, Row, Series,
+    ShortDay, ShortPoint, Status, Tables, VersionRecord,
 };
 use quantity::limits::DELTAS;
 use quantity::{Day, PointNo, Version};
 
 // An active point's record: its numbers are in range, and so are narrowed with no loss.
-pub fn active_record(kind: u64, area: u64, partner: u64, day: Day) -> PointRecord
-    requires partner_value { series_ok kind area partner ≡ true }
+pub fn active_record(series: Series, day: Day) -> PointRecord
+    requires partner_value { series_ok series.kind series.area series.partner ≡ true }
     requires day_value { day_ok day.0 ≡ true }
-    ensures { result ≡ active_point kind area partner day.0 }
+    ensures { result ≡ active_point series.kind series.area series.partner day.0 }
 {
     let since = ShortDay(day.0 as u16);
-    let kind = Kind(kind as u8);
-    let area = Area(area as u8);
-    let partner = Partner(partner as u8);
+    let kind = Kind(series.kind as u8);
+    let area = Area(series.area as u8);
+    let partner = Partner(series.partner as u8);
     PointRecord {
         state: PointState::Active {
             since,
@@ -88,10 +88,10 @@ pub fn put_day(f: Frame, day: Day) -> Effect
 }
 
 // The flags with that of a run set.
-pub fn with_flag(flags: Runs, run: u64) -> Runs
+pub fn with_flag(flags: PerRun<bool>, run: u64) -> PerRun<bool>
     ensures { result ≡ flagged run flags }
 {
-    Runs {
+    PerRun {
         first: (run == 1) | flags.first,
         second: (run == 2) | flags.second,
     }

@@ -15,7 +15,7 @@ pub fn unchanged(f: Frame) -> Effect
     }
 }
 
-// `run_file` of `replay` carries the same effect out on the desk that it holds: a desk that goes in here and comes back is copied.
+// `carry_out` of `replay` carries the same effect out on the desk that it holds: a desk that goes in here and comes back is copied.
 pub fn changed(d: Desk, e: Effect) -> Desk
     requires { Fits d e }
     ensures { result ≡ changed_by d e }

@@ -3,7 +3,7 @@ ghost use Rattle.std.specs.Prelude.{◌≡◌};
 ghost use Rattle.state.specs.Desk.{open_frame, open_desk, fresh_desk};
 
 use crate::{
-    DeltaGroups, Desk, Frame, Opening, PointRecord, PointState, Row, Runs, ShortPoint, Status,
+    DeltaGroups, Desk, Frame, Opening, PerRun, PointRecord, PointState, Row, ShortPoint, Status,
     VersionRecord,
 };
 use quantity::limits::{DELTAS, POINTS, VERSIONS};
@@ -13,14 +13,14 @@ use quantity::{Day, Version};
 pub fn open_frame(opening: Opening, groups: [u64; DELTAS as usize]) -> Frame
     ensures { result ≡ open_frame opening groups }
 {
-    let none = Runs {
+    let none = PerRun {
         first: false,
         second: false,
     };
     Frame {
         opening,
         day: Day(0),
-        groups: DeltaGroups {
+        groups: PerRun {
             first: groups,
             second: groups,
         },

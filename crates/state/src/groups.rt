@@ -10,7 +10,7 @@ use quantity::Day;
 pub fn sets_both(o: Opening, day: Day) -> bool
     ensures { result ≡ sets_both o day.0 }
 {
-    day.0 <= o.clearing.0
+    day <= o.clearing
 }
 
 // Another group for a delta, in both runs or in run 2 only: area 0 is T.

@@ -55,6 +55,14 @@ pub struct PointRecord {
     pub state: PointState,
 }
 
+// A point's series as a call names it, in any numbers: its kind, area and partner.
+#[derive(Clone, Copy)]
+pub struct Series {
+    pub kind: u64,
+    pub area: u64,
+    pub partner: u64,
+}
+
 // Check data, settlement data, settled, correction settlement data, correction settled.
 #[derive(Clone, Copy)]
 pub enum Status {
@@ -86,19 +94,15 @@ pub struct Opening {
     pub schedules: u64,
 }
 
-// A flag for each run.
+// A value for each run.
 #[derive(Clone, Copy)]
-pub struct Runs {
-    pub first: bool,
-    pub second: bool,
+pub struct PerRun<T> {
+    pub first: T,
+    pub second: T,
 }
 
 // The delta groups of T and of areas 1 to 16, for each run.
-#[derive(Clone, Copy)]
-pub struct DeltaGroups {
-    pub first: [u64; DELTAS as usize],
-    pub second: [u64; DELTAS as usize],
-}
+pub type DeltaGroups = PerRun<[u64; DELTAS as usize]>;
 
 // What stands beside the two tables: what the opening fixed, the day, the delta groups, how many versions are held, how many rows of the log
 // are used, the runs closed and the runs issued.
@@ -109,8 +113,8 @@ pub struct Frame {
     pub groups: DeltaGroups,
     pub count: u64,
     pub used: u64,
-    pub closed: Runs,
-    pub issued: Runs,
+    pub closed: PerRun<bool>,
+    pub issued: PerRun<bool>,
 }
 
 // The first `count` records of `versions` are the versions held, in the order of their submission; what stands past them is unused.

@@ -16,7 +16,7 @@ pub fn is_at(v: VersionRecord, point: PointNo) -> bool
 pub fn is_version(v: VersionRecord, point: PointNo, version: Version) -> bool
     ensures { result ≡ is_version point.0 version.0 v }
 {
-    is_at(v, point) & (v.version.0 == version.0)
+    is_at(v, point) & (v.version == version)
 }
 
 pub fn is_counted(v: VersionRecord, run: u64, point: PointNo) -> bool
@@ -44,7 +44,7 @@ pub fn raised(s: Selection, r: VersionRow) -> Selection
     match s {
         Selection::None => Selection::Selected(r),
         Selection::Selected(top) => {
-            if top.version.0 < r.version.0 {
+            if top.version < r.version {
                 Selection::Selected(r)
             } else {
                 s
@@ -60,7 +60,7 @@ pub fn raised_earlier(s: Selection, r: VersionRow) -> Selection
     match s {
         Selection::None => Selection::Selected(r),
         Selection::Selected(top) => {
-            if top.version.0 <= r.version.0 {
+            if top.version <= r.version {
                 Selection::Selected(r)
             } else {
                 s
@@ -79,7 +79,7 @@ pub fn raised_if(test: bool, s: Selection, r: VersionRow) -> Selection
 pub fn higher(top: Version, counts: bool, version: Version) -> Version
     ensures { result ≡ higher_of top counts version }
 {
-    if counts & (top.0 < version.0) {
+    if counts & (top < version) {
         version
     } else {
         top

@@ -24,7 +24,7 @@ pub fn no_tops() -> [Version; POINTS as usize]
 pub fn settled_record(v: VersionRecord, run: u64, top: Version) -> VersionRecord
     ensures { result ≡ settle_by run top.0 v }
 {
-    if counts_in(run, v.status) & (v.version.0 == top.0) {
+    if counts_in(run, v.status) & (v.version == top) {
         restated(v, settled_status(run))
     } else {
         v

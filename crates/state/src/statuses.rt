@@ -38,7 +38,7 @@ pub fn is_check(s: Status) -> bool
 pub fn submitted_status(first: Day, day: Day) -> Status
     ensures { result ≡ submitted_status first.0 day.0 }
 {
-    if day.0 <= first.0 {
+    if day <= first {
         Status::Settlement
     } else {
         Status::Check
@@ -48,7 +48,7 @@ pub fn submitted_status(first: Day, day: Day) -> Status
 pub fn confirmed_status(clearing: Day, day: Day) -> Status
     ensures { result ≡ confirmed_status clearing.0 day.0 }
 {
-    if day.0 <= clearing.0 {
+    if day <= clearing {
         Status::Settlement
     } else {
         Status::Correction

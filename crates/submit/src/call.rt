@@ -73,12 +73,12 @@ fn submit_ruling(
     refuse_if(other_lengths(o, n), Cause::WrongLength)?;
     let fits = submit_ok(point, version, day, o.quarters, series);
     refuse_if(!fits, Cause::BadField)?;
-    refuse_if(day.0 < f.day.0, Cause::PastDay)?;
-    refuse_if(o.correction.0 < day.0, Cause::AfterCorrection)?;
+    refuse_if(day < f.day, Cause::PastDay)?;
+    refuse_if(o.correction < day, Cause::AfterCorrection)?;
     refuse_if(!is_active(l.here), Cause::NotActive)?;
     refuse_if(too_early(l.here, day), Cause::TooEarly)?;
     refuse_if(l.survey.held.is_some(), Cause::VersionPresent)?;
-    refuse_if(version.0 < l.survey.highest.0, Cause::VersionBelow)?;
+    refuse_if(version < l.survey.highest, Cause::VersionBelow)?;
     refuse_if(no_row(f.count, o.quarters, o.values), Cause::NoRow)?;
     refuse_if(log_full(f.used, o.log, due), Cause::NoLogRow)
 }

@@ -18,7 +18,7 @@ use Rattle.state.specs.declared.Selection.{Selection}
 use Rattle.state.specs.declared.VersionRecord.{VersionRecord}
 use Rattle.quantity.specs.Limits.{points}
 use Rattle.checks.specs.Picks.{no_picks, selected_in, PicksIn}
-use Rattle.checks.specs.declared.PointPicks.{PointPicks}
+use Rattle.state.specs.declared.PerRun.{PerRun}
 use Rattle.summary.specs.Table.{rows_to, point_places, point_row, version_places, version_row, refusals, first_refused}
 
 -- one row more behind those that stand
@@ -56,13 +56,13 @@ rows-same zero f g e = refl
 rows-same (suc n) f g e = rw (rows-same n f g (λ i h. e i (omega arith)), e n (omega arith))
 
 -- a point's row by the table of picks
-abbrev pub picked_row : List PointRecord → List PointPicks → ℕ → List ℕ
+abbrev pub picked_row : List PointRecord → List (PerRun Selection) → ℕ → List ℕ
 picked_row ps t i = point_places (point_at ps (suc i)) (selected_in 1 (get_or t i no_picks)) (selected_in 2 (get_or t i no_picks))
 
-pub picked-wide : (ps : List PointRecord) (t : List PointPicks) (i : ℕ) → length (picked_row ps t i) ≡ 9
+pub picked-wide : (ps : List PointRecord) (t : List (PerRun Selection)) (i : ℕ) → length (picked_row ps t i) ≡ 9
 picked-wide ps t i = point-wide (point_at ps (suc i)) _ _
 
-pub picked-all : (ps : List PointRecord) (vs : List VersionRecord) (t : List PointPicks) → PicksIn vs t → rows_to points (picked_row ps t) ≡ rows_to points (point_row ps vs)
+pub picked-all : (ps : List PointRecord) (vs : List VersionRecord) (t : List (PerRun Selection)) → PicksIn vs t → rows_to points (picked_row ps t) ≡ rows_to points (point_row ps vs)
 picked-all ps vs t k = rows-same points (picked_row ps t) (point_row ps vs) (λ i h. rw (k.each i h))
 
 -- the first records of a table are those held

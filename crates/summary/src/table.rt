@@ -6,12 +6,11 @@ ghost use Rattle.summary.specs.Table.{points_places, versions_places, point_plac
 
 use crate::Refusals;
 use amend::copies::put_row;
-use checks::PointPicks;
 use checks::picks::{picks_of, selected_in};
 use checks::surveys::records_in;
 use quantity::limits::{POINTS, VERSIONS};
 use state::selections::{status_of, version_of};
-use state::{PointRecord, PointState, Selection, VersionRecord};
+use state::{PerRun, PointRecord, PointState, Selection, VersionRecord};
 
 // How many numbers a point has.
 const POINT_NUMBERS: usize = 9;
@@ -52,7 +51,7 @@ fn point_places(state: PointState, first: Selection, second: Selection) -> [u64;
 }
 
 // A point's row, with what both runs select of it.
-fn point_row(state: PointState, picks: PointPicks) -> [u64; POINT_NUMBERS]
+fn point_row(state: PointState, picks: PerRun<Selection>) -> [u64; POINT_NUMBERS]
     ensures { result ≡ point_places state (selected_in 1 picks) (selected_in 2 picks) }
 {
     point_places(state, selected_in(picks, 1), selected_in(picks, 2))

@@ -26,7 +26,7 @@ at-last t x e h = rw e h
 
 -- a point has a version where its highest is not 0
 has-version : (d : Desk) (p : ℕ) (l : Look) → Looked d (asking_versions p 0) l → valid_desk d ≡ true → not (eqb l.survey.highest.0 0) ≡ any (is_at p) (versions_in d)
-has-version d p l k v = rw (k.survey refl).highest (highest-any p (rows_in d.frame.opening) (versions_in d) (sound d v).versions)
+has-version d p l k v = rw (k.survey (record { 0 = 0 }) refl).highest (highest-any p (rows_in d.frame.opening) (versions_in d) (sound d v).versions)
 
 pub returns : goal.returns
 unfolding refusal_by first_of fold or_if

@@ -21,4 +21,4 @@ returns-in-Ok c s =
     let r = c in
     let l = seen (goal.at.returns-in-Ok c).After-look-l in
     answer-granted _ _ s (r.status_ruling.ensures r.args.d l (lengths_of s)) c.in-Ok.is
-    (record { answered = rw (c.status_answer-answer.ensures, (l.survey refl).held); held = refl })
+    (record { answered = rw (c.status_answer-answer.ensures, (l.survey _ refl).held); held = refl })

@@ -18,7 +18,7 @@ returns c =
     record {
       valid = rw (c.frame_ok.ensures, n.fit, s.fit);
       here = c.state_at-here.ensures;
-      taken = λ _. n.taken;
+      taken = λ s e. rw (c.unwrap_or-series.ensures, e) at n.taken;
       table = table (goal.at.returns c).Start;
-      survey = λ _. s.survey;
+      survey = λ x e. rw (c.unwrap_or-version.ensures, e) at s.survey;
     }

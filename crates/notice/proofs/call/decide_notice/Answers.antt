@@ -38,7 +38,7 @@ module _ (f : Frame) (point : PointNo) (version : Version) (verdict : ℕ) (day 
   after = noticed_in (with_frame d f) point.0 version.0 verdict day.0
 
   turn-is : (r : Turn) → r ≡ turn_by f verdict day.0 l.survey → r ≡ turn_of (versions_in (with_frame d f)) after point.0
-  turn-is r h = h ∙ turned (with_frame d f) point.0 version.0 verdict day.0 l.survey (looked.survey refl)
+  turn-is r h = h ∙ turned (with_frame d f) point.0 version.0 verdict day.0 l.survey (looked.survey _ refl)
 
   due-is : (r : Turn) (u : Option LogRow) → r ≡ turn_by f verdict day.0 l.survey → u ≡ due_by r point.0 day.0
       → u ≡ due (versions_in (with_frame d f)) after point.0 day.0
@@ -71,7 +71,7 @@ notice_granted-requires c =
     let looked = s.requires.looked in
     let e = with_frame d c.args.f in
     let owed = due-is c.args.f c.args.point c.args.version c.args.verdict c.args.day c.args.l d looked _ _ c.notice_turn-turn.ensures c.due_by-due.ensures in
-    notice-allowed e a.point.0 a.version.0 a.verdict a.day.0 a.values.now a.book.now a.log.now _ _ _ (sound e (valid c.args.f c.args.point c.args.version c.args.verdict c.args.day c.args.l d looked (not-false _ c.if-not-l.false))) looked.table (looked.survey refl).held (turn-is c.args.f c.args.point c.args.version c.args.verdict c.args.day c.args.l d looked _ c.notice_turn-turn.ensures) owed looked.here
+    notice-allowed e a.point.0 a.version.0 a.verdict a.day.0 a.values.now a.book.now a.log.now _ _ _ (sound e (valid c.args.f c.args.point c.args.version c.args.verdict c.args.day c.args.l d looked (not-false _ c.if-not-l.false))) looked.table (looked.survey _ refl).held (turn-is c.args.f c.args.point c.args.version c.args.verdict c.args.day c.args.l d looked _ c.notice_turn-turn.ensures) owed looked.here
     (sym (c.notice_ruling.ensures d looked owed no_lengths) ∙ c.in-Ok.is)
 
 pub returns-in-Err : goal.returns-in-Err
@@ -98,9 +98,9 @@ returns-in-Ok c d looked =
     let turn = turn-is c.args.f c.args.point c.args.version c.args.verdict c.args.day c.args.l d looked _ c.notice_turn-turn.ensures in
     let owed = due-is c.args.f c.args.point c.args.version c.args.verdict c.args.day c.args.l d looked _ _ c.notice_turn-turn.ensures c.due_by-due.ensures in
     rw (c.accept.ensures.0, c.accept.ensures.1) (
-      notice-fits e a.point.0 a.version.0 a.verdict a.day.0 a.values.now a.book.now a.log.now _ _ _ (sound e inside) looked.table (looked.survey refl).held turn owed g,
+      notice-fits e a.point.0 a.version.0 a.verdict a.day.0 a.values.now a.book.now a.log.now _ _ _ (sound e inside) looked.table (looked.survey _ refl).held turn owed g,
       λ s.
           let stores = storing s a.values.now a.book.now a.log.now in
           all-granted e call stores (c.notice_ruling.ensures d looked owed (lengths_of s) ∙ sym (fit e (told (lent call stores)) refl inside)) c.in-Ok.is
-          (notice-stepped e a.point.0 a.version.0 a.verdict a.day.0 a.values.now a.book.now a.log.now _ _ _ (sound e inside) looked.table (looked.survey refl).held turn owed s looked.here g),
+          (notice-stepped e a.point.0 a.version.0 a.verdict a.day.0 a.values.now a.book.now a.log.now _ _ _ (sound e inside) looked.table (looked.survey _ refl).held turn owed s looked.here g),
     )

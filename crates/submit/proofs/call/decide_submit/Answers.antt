@@ -43,7 +43,7 @@ module _ (f : Frame) (point : PointNo) (version : Version) (day : Day) (l : TheL
   after = submitted_in (with_frame e f) point.0 version.0 day.0
 
   turn-is : (r : Turn) → r ≡ turn_by f version day.0 l.survey → r ≡ turn_of (versions_in (with_frame e f)) after point.0
-  turn-is r h = h ∙ turned (with_frame e f) point.0 day.0 version l.survey within.count k.table (k.survey refl)
+  turn-is r h = h ∙ turned (with_frame e f) point.0 day.0 version l.survey within.count k.table (k.survey _ refl)
 
   due-is : (r : Turn) (u : Option LogRow) → r ≡ turn_by f version day.0 l.survey → u ≡ due_by r point.0 day.0
       → u ≡ due (versions_in (with_frame e f)) after point.0 day.0

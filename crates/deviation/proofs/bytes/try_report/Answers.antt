@@ -1,11 +1,11 @@
--- `report` meets its contract. Assumes nothing.
+-- `try_report` meets its contract. Assumes nothing.
 use Rattle.std.proofs.Common.{◌≡◌, refl, sym, ◌∙◌, rules}
 use Rattle.book.proofs.Figures.{refused}
 use Rattle.deviation.specs.Deviation.{over_sum}
 use Rattle.deviation.specs.Bytes.{schedule_bytes, figure_bytes, surplus_in, shortfall_in}
 use Rattle.deviation.proofs.Reports.{no-surplus, no-shortfall}
-use Rattle.deviation.proofs.bytes.report.Goals.{In_ok-check}
-use Rattle.deviation.proofs.bytes.report.Goals as goal
+use Rattle.deviation.proofs.bytes.try_report.Goals.{In_ok-check}
+use Rattle.deviation.proofs.bytes.try_report.Goals as goal
 
 pub returns-in_err-check-clause-surplus : goal.returns-in_err-check-clause-surplus
 unfolding surplus_in

@@ -1,8 +1,8 @@
--- `figure` meets its contract. Assumes nothing.
+-- `try_figure` meets its contract. Assumes nothing.
 use Rattle.std.proofs.Common.{refl, sym, ◌∙◌}
 use Rattle.book.specs.Bytes.{figure_in}
 use Rattle.book.proofs.Figures.{refused, no-figure}
-use Rattle.book.proofs.figure.figure.Goals as goal
+use Rattle.book.proofs.figure.try_figure.Goals as goal
 
 pub returns-in_err-check-clause-figure : goal.returns-in_err-check-clause-figure
 unfolding figure_in
