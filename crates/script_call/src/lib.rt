@@ -5,6 +5,8 @@ pub mod call;
 pub mod record;
 mod via;
 
+use amend::copies;
+
 // The numbers that a script gives, put into a lent buffer.
 #[derive(Drop)]
 pub struct Output<'a> {
@@ -24,9 +26,8 @@ impl Output<'_> {
     // A row, where there is room for all of it.
     fn put_row(&mut self, row: &[u64]) {
         if self.filled <= self.numbers.len() && row.len() <= self.numbers.len() - self.filled {
-            let end = self.filled + row.len();
-            self.numbers[self.filled..end].copy_from_slice(row);
-            self.filled = end;
+            copies::put_row(self.numbers, self.filled, row);
+            self.filled += row.len();
         }
     }
 }

@@ -3,4 +3,4 @@ use Rattle.book.proofs.Rows.{back}
 use Rattle.amend.proofs.copies.put_row.Goals as goal
 
 pub returns : goal.returns
-returns c = back c.args.store.now c.args.start _ c.copy_from_slice.ensures.after
+returns c = back c.args.store.now c.args.start _ c.copy_over.ensures
