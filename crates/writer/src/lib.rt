@@ -50,11 +50,14 @@ impl Word for Energy {
     }
 }
 
-// How many bytes a number takes: one for each seven bits.
+// How many bytes a number takes: one for each seven bits. One byte is told by itself, since most numbers of a call have no more.
 fn number_size(n: u64) -> usize
     requires { n < 2 ^ 63 }
     ensures { result ≡ length (encode n) }
 {
+    if n < SEVEN_BITS {
+        return 1;
+    }
     n.checked_ilog2().unwrap_or(0) as usize / 7 + 1
 }
 

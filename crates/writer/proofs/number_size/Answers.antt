@@ -19,6 +19,9 @@ by-bits : (o : Option ℕ) (n : ℕ) → n < 2 ^ 63 → IfNone o (n ≡ 0) → I
 by-bits None n h none low high = sym (ap length (encode-short 8 n (omega arith)))
 by-bits (Some k) n h none low high = sym (bits-size 9 n k (below-63 n k h low) low high)
 
+pub returns-then-n-lt-SEVEN_BITS : goal.returns-then-n-lt-SEVEN_BITS
+returns-then-n-lt-SEVEN_BITS c = sym (ap length (encode-short 8 c.args.n c.if-n-lt-SEVEN_BITS.true))
+
 pub returns : goal.returns
 returns c =
     let e = c.checked_ilog2.ensures in
