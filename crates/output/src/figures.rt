@@ -8,13 +8,19 @@ use quantity::{WattHours, limits, word};
 
 pub const GROUPS: usize = limits::GROUPS as usize;
 
-// The book of a month of so many quarter hours, in none of which the groups' sum wraps.
+// The book of a month of so many quarter hours.
 #[derive(Clone, Copy)]
 pub struct Month<'a> {
     pub book: &'a [u64],
     pub quarters: usize,
-    ghost few: { quarters ≤ program_quarters },
-    ghost summed: { Summed book.now quarters },
+}
+
+// A month of no more quarter hours than the program takes, in none of which the groups' sum wraps.
+#[derive(Clone, Copy)]
+pub struct SummedMonth<'a> {
+    pub month: Month<'a>,
+    ghost few: { month.quarters ≤ program_quarters },
+    ghost summed: { Summed month.book.now month.quarters },
 }
 
 impl Month<'_> {

@@ -11,7 +11,7 @@ ghost use Rattle.output.specs.Fill.{most, Fills};
 ghost use Rattle.output.specs.Parts.{Sized};
 ghost use Rattle.output.specs.Output.{file_size, text_of};
 
-use figures::Month;
+use figures::{Month, SummedMonth};
 use print::{put_answers, put_ending};
 use quantity::limits::{BOOK_ROWS, QUARTERS, SCHEDULE_ROWS};
 use text::Text;
@@ -59,9 +59,11 @@ fn put_output(
     put_ending(
         &mut text,
         done.ending,
-        &Month {
-            book,
-            quarters: desk.frame.opening.quarters as usize,
+        &SummedMonth {
+            month: Month {
+                book,
+                quarters: desk.frame.opening.quarters as usize,
+            },
         },
         desk.versions,
         desk.frame.count,

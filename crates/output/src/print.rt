@@ -9,7 +9,7 @@ ghost use Rattle.output.specs.Fill.{most_calls, answer_room, line_room, group_ro
 ghost use Rattle.output.specs.Parts.{Short, ended_text};
 ghost use Rattle.output.specs.Output.{answers_text, group_text, quarter_text, month_text};
 
-use crate::figures::{GROUPS, Month};
+use crate::figures::{GROUPS, Month, SummedMonth};
 use crate::selections::put_selections;
 use quantity::WattHours;
 use quantity::limits::VERSIONS;
@@ -49,29 +49,29 @@ fn put_groups(text: &mut Text, month: &Month, run: usize, quarter: usize)
 }
 
 // A quarter hour of a run: its groups, then their sum.
-fn put_quarter(text: &mut Text, month: &Month, run: usize, quarter: usize)
-    requires { IsPlace month.now.quarters run quarter × (text.old.filled + quarter_room ≤ length text.old.buffer.now) }
-    ensures { Puts quarter_room (quarter_text run quarter (read_of month.now.book.now month.now.quarters run quarter)) text.old text.new }
+fn put_quarter(text: &mut Text, month: &SummedMonth, run: usize, quarter: usize)
+    requires { IsPlace month.now.month.quarters run quarter × (text.old.filled + quarter_room ≤ length text.old.buffer.now) }
+    ensures { Puts quarter_room (quarter_text run quarter (read_of month.now.month.book.now month.now.month.quarters run quarter)) text.old text.new }
 {
-    put_groups(text, month, run, quarter);
-    let sum = month.total(run, quarter);
+    put_groups(text, &month.month, run, quarter);
+    let sum = month.month.total(run, quarter);
     text.total_line(run as u64, quarter as u64, sum);
 }
 
 // The quarter hours of a run, one after the other.
-fn put_run(text: &mut Text, month: &Month, run: usize)
-    requires { ((1 ≤ run) × (run ≤ runs)) × (text.old.filled + quarter_room * month.now.quarters ≤ length text.old.buffer.now) }
-    ensures { Puts (quarter_room * month.now.quarters) (each_to month.now.quarters (λ (q : ℕ). quarter_text run q (read_of month.now.book.now month.now.quarters run q))) text.old text.new }
+fn put_run(text: &mut Text, month: &SummedMonth, run: usize)
+    requires { ((1 ≤ run) × (run ≤ runs)) × (text.old.filled + quarter_room * month.now.month.quarters ≤ length text.old.buffer.now) }
+    ensures { Puts (quarter_room * month.now.month.quarters) (each_to month.now.month.quarters (λ (q : ℕ). quarter_text run q (read_of month.now.month.book.now month.now.month.quarters run q))) text.old text.new }
 {
-    for quarter in 1..=month.quarters {
+    for quarter in 1..=month.month.quarters {
         put_quarter(text, month, run, quarter);
     }
 }
 
 // The figures of both runs.
-fn put_month(text: &mut Text, month: &Month)
+fn put_month(text: &mut Text, month: &SummedMonth)
     requires { text.old.filled + figures_room ≤ length text.old.buffer.now }
-    ensures { Puts figures_room (month_text month.now.quarters (read_of month.now.book.now month.now.quarters)) text.old text.new }
+    ensures { Puts figures_room (month_text month.now.month.quarters (read_of month.now.month.book.now month.now.month.quarters)) text.old text.new }
 {
     put_run(text, month, 1);
     put_run(text, month, 2);
@@ -81,12 +81,12 @@ fn put_month(text: &mut Text, month: &Month)
 pub fn put_ending(
     text: &mut Text,
     ending: Ending,
-    month: &Month,
+    month: &SummedMonth,
     versions: [VersionRecord; VERSIONS as usize],
     count: u64,
 )
     requires { text.old.filled + end_room ≤ length text.old.buffer.now }
-    ensures { Puts end_room (ended_text ending month.now.quarters (read_of month.now.book.now month.now.quarters) (take count versions)) text.old text.new }
+    ensures { Puts end_room (ended_text ending month.now.month.quarters (read_of month.now.month.book.now month.now.month.quarters) (take count versions)) text.old text.new }
 {
     match ending {
         Ending::End => {

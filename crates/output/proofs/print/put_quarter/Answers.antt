@@ -11,4 +11,4 @@ unfolding quarter_text
 returns c =
     let a = c.args in
     puts-then c.put_groups.ensures
-    (puts-as {p = total_room} c.total_line.ensures (search rules) (total-read a.month.now.book.now a.month.now.quarters _ _ _ a.month.now.summed c.requires.0 c.total-sum.ensures))
+    (puts-as {p = total_room} c.total_line.ensures (search rules) (total-read a.month.now.month.book.now a.month.now.month.quarters _ _ _ a.month.now.summed c.requires.0 c.total-sum.ensures))

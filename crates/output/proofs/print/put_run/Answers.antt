@@ -14,9 +14,9 @@ pub loop-quarter-preserved : goal.loop-quarter-preserved
 loop-quarter-preserved c = (puts-next quarter_room _ _ (search rules) c.loop-quarter.invariant.0 c.put_quarter.ensures, search rules)
 
 pub returns : goal.returns
-returns c = let e : c.loop-quarter.quarter - 1 ≡ c.args.month.now.quarters = omega arith in rw e at c.loop-quarter.invariant.0
+returns c = let e : c.loop-quarter.quarter - 1 ≡ c.args.month.now.month.quarters = omega arith in rw e at c.loop-quarter.invariant.0
 
 pub returns-2 : goal.returns-2
 returns-2 c =
-    let e : c.loop-quarter.quarter + 1 - 1 ≡ c.args.month.now.quarters = omega arith in
+    let e : c.loop-quarter.quarter + 1 - 1 ≡ c.args.month.now.month.quarters = omega arith in
     rw e at (puts-next quarter_room _ _ (search rules) c.loop-quarter.invariant.0 c.put_quarter.ensures)

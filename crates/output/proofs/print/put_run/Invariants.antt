@@ -8,4 +8,4 @@ use Rattle.output.specs.Output.{quarter_text}
 use Rattle.output.proofs.print.put_run.Given as goal
 
 abbrev pub invariant-loop-quarter : goal.invariant-loop-quarter
-invariant-loop-quarter l = Puts (quarter_room * (l.quarter - 1)) (each_to (l.quarter - 1) (λ (q : ℕ). quarter_text l.run q (read_of l.month.book.now l.month.quarters l.run q))) l.initial.text l.text × (l.quarter ≤ l.month.quarters + 1)
+invariant-loop-quarter l = Puts (quarter_room * (l.quarter - 1)) (each_to (l.quarter - 1) (λ (q : ℕ). quarter_text l.run q (read_of l.month.month.book.now l.month.month.quarters l.run q))) l.initial.text l.text × (l.quarter ≤ l.month.month.quarters + 1)
