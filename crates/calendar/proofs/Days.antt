@@ -84,14 +84,14 @@ module _ (m : Month) (d : Date) (p : IsMonth m) (q : IsDate d) (i j : ℕ) (from
   same : j ≡ i → month_of d ≡ m
   same h = same-place (month_of d) m q.0 p (sym to ∙ h ∙ from)
 
-  last_day : j ≡ i → d.day ≡ length_of m → day_for m d ≡ number 0
+  pub last_day : j ≡ i → d.day ≡ length_of m → day_for m d ≡ number 0
   last_day h e =
       let y : d.year ≡ m.year = ap (λ (k : Month). k.year) (same h) in
       let n : d.month ≡ m.month = ap (λ (k : Month). k.month) (same h) in
       let is : d ≡ last_of m = same-date y n e in
       ap (day_for m) is ∙ last-zero m p
 
-  earlier-day : j ≡ i → (d.day ≡ length_of m → ⊥) → day_for m d ≡ None
+  pub earlier-day : j ≡ i → (d.day ≡ length_of m → ⊥) → day_for m d ≡ None
   earlier-day h other = day-refused m d (λ n r. other (omega (arith, day-rises (last_of m) d (sym (same h)) r.after, ap length_of (same h))))
 
   -- in the settled month the last day alone has a number
@@ -112,7 +112,7 @@ module _ (m : Month) (d : Date) (p : IsMonth m) (q : IsDate d) (i j : ℕ) (from
     pub least : b ≤ a + w
     least = omega (arith, before-rises (i + 1) j (omega arith))
 
-    number-given : a + w - b ≤ 400 → day_for m d ≡ number (a + w - b)
+    pub number-given : a + w - b ≤ 400 → day_for m d ≡ number (a + w - b)
     number-given s =
         day-given m d (a + w - b)
         (record {
@@ -123,7 +123,7 @@ module _ (m : Month) (d : Date) (p : IsMonth m) (q : IsDate d) (i j : ℕ) (from
           small = s;
         })
 
-    number-refused : 400 < a + w - b → day_for m d ≡ None
+    pub number-refused : 400 < a + w - b → day_for m d ≡ None
     number-refused s = day-refused m d (λ n r. omega (arith, base, whole, r.counted, r.small))
 
     pub in-later : then_some (leb (a + w - b) 400) (record { 0 = a + w - b }) ≡ day_for m d

@@ -11,7 +11,7 @@ padded-at [] k i = alike-at k i 0
 padded-at (x ∷ l) k zero = refl
 padded-at (x ∷ l) k (suc i) = padded-at l k i
 
-fields-length : (fields : List ℕ) → length (fields21 fields) ≡ most_fields
+pub fields-length : (fields : List ℕ) → length (fields21 fields) ≡ most_fields
 fields-length fields =
     let zeros : length (replicate {A = ℕ} most_fields 0) ≡ most_fields = refl in
     length-take-le most_fields (fields ++ replicate most_fields 0) (omega (arith, length-append fields (replicate most_fields 0)))
