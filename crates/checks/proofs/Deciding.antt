@@ -1,4 +1,4 @@
--- The table of causes and the step, as a call's proof goes through them: check by check, then refused or granted. Assumes nothing.
+-- The table of causes and the step, as a call's proof goes on from its ruling: refused or granted. Assumes nothing.
 use Prim.Native.Nat.{ℕ, ◌*◌}
 use mathlib.Core.Path.{◌≡◌, refl, sym, ◌∙◌}
 use mathlib.Core.Bool.{true, false, not, ◌&&◌, ◌||◌, or-false}
