@@ -50,6 +50,8 @@ KEYWORDS = {'λ', 'let', 'in', 'record', 'where', 'rw', 'absurd'}
 PRELUDE = 'Rattle.std.specs.Prelude'
 # functions of the library: the types of their arguments, and of what they give
 LIBRARY = {n: (['ℕ', 'ℕ'], 'Bool') for n in ('leb', 'ltb', 'eqb', 'nat_le', 'nat_lt', 'nat_eq')}
+# constructors of the library: which argument of its type each carries
+CARRIED = {'Some': 0, 'Ok': 0, 'Err': 1}
 
 
 def refuse(word):
@@ -152,6 +154,11 @@ def signature(text):
     return args, one_line(text[begin:])
 
 
+def arguments_of(type):
+    """The arguments of a type, as A and E of `Result A E`."""
+    return [re.sub(r'^\((.*)\)$', r'\1', type[a:b]) for u in list(uses_in(words_in(type, 0, len(type))))[:1] for a, b in u.args]
+
+
 @dataclass
 class Clause:
     name: str
@@ -251,11 +258,13 @@ def read_file(path):
 def read_types(crate):
     """The structs and enums of a crate's code: fields, and variants with what they carry."""
     text = ''.join(re.sub(r'//[^\n]*', '', p.read_text()) for p in sorted((ROOT / 'crates' / crate / 'src').glob('*.rt')))
-    structs = {m.group(1): re.findall(r'(?:pub )?(\w+): ([^,\n]+),', m.group(2)) for m in re.finditer(r'pub struct (\w+) \{(.*?)\n\}', text, re.S)}
+    head = r'(\w+)(?:<[^>]*>)?'
+    structs = {m.group(1): re.findall(r'^    (?:pub )?(\w+): ([^,\n]+),', m.group(2), re.M) for m in re.finditer(rf'pub struct {head} \{{(.*?)\n\}}', text, re.S)}
+    structs.update({n: structs[of] for n, of in re.findall(rf'pub type (\w+) = {head};', text) if of in structs})
     enums = {}
-    for m in re.finditer(r'pub enum (\w+) \{(.*?)\n\}', text, re.S):
+    for m in re.finditer(rf'pub enum {head} \{{(.*?)\n\}}', text, re.S):
         enums[m.group(1)] = [(v.group(1), re.findall(r'\w+: ([^,}]*[^,}\s])', v.group(2) or '') or re.findall(r'\(([^)]*)\)', v.group(2) or ''))
-                             for v in re.finditer(r'^    (\w+)( \{.*?\}|\([^)]*\))?,$', m.group(2), re.M | re.S)]
+                             for v in re.finditer(r'^    (\w+)( \{.*?\}|\([^)]*\))?(?: = \w+)?,$', m.group(2), re.M | re.S)]
     return structs, enums
 
 
@@ -379,8 +388,10 @@ class Kinds:
         types = self.f.names[c.name][0]
         left, i, n, known = c.left, 0, 0, {}
 
-        def inside(words):
-            if len(words) > 1 and words[0].text in self.makers:
+        def inside(words, of):
+            if len(words) == 2 and words[0].text in CARRIED:
+                known[words[1].text] = dict(enumerate(arguments_of(of))).get(CARRIED[words[0].text], '')
+            elif len(words) > 1 and words[0].text in self.makers:
                 for w, t in zip(words[1:], self.makers[words[0].text][1]):
                     if is_operand(w.text):
                         known[w.text] = t
@@ -394,7 +405,7 @@ class Kinds:
             if end == i + 1 and left[i].text not in self.makers and is_operand(left[i].text):
                 known[left[i].text] = types[n] if n < len(types) else ''
             elif end > i + 1:
-                inside(left[i + 1:end - 1])
+                inside(left[i + 1:end - 1], types[n] if n < len(types) else '')
             i, n = end, n + 1
         return {v: t for v, t in known.items() if v not in self.names and not v[0].isdigit()}
 
@@ -594,7 +605,7 @@ class Kinds:
                 types[w.end] = types[before.end]
             if not w.text.startswith('.'):
                 continue
-            record = self.sources.typed.get(types.get(before.end))
+            record = self.sources.typed.get(re.split('[ <]', types.get(before.end, ''))[0])
             if record:
                 owners[w.start] = record
             of = {r[w.text[1:]] for r in ([record] if record else self.sources.typed.values()) if w.text[1:] in r}
@@ -824,16 +835,16 @@ def changes(part):
 # ---- trying them
 
 def without_functions(text):
-    """A source without its functions, and without the names that only they use."""
-    text = re.sub(r'(?:^(?://|#\[)[^\n]*\n)*^(?:pub )?(?:extern "C" )?fn .*?^}\n', '', text, flags=re.M | re.S)
-    kept = []
-    for l in text.split('\n'):
-        used = re.match(r'use ([\w:]+?)(?: as (\w+))?;', l)
-        name = used and (used.group(2) or used.group(1).split('::')[-1])
-        if l.startswith('ghost use') or used and len(re.findall(rf'\b{name}\b', re.sub(r'^use .*|//.*', '', text, flags=re.M))) == 0:
-            continue
-        kept.append(l)
-    return '\n'.join(kept)
+    """A source without its functions, `impl`s and traits, and without the names that only they use."""
+    text = re.sub(r'(?:^(?://|#\[)[^\n]*\n)*^(?:pub )?(?:extern "C" )?(?:fn|impl|trait)\b.*?^}\n', '', text, flags=re.M | re.S)
+    left = re.sub(r'^(?:ghost )?use .*?;|//[^\n]*', '', text, flags=re.M | re.S)
+
+    def as_used(use):
+        listed = [n.strip() for n in use.group(2).strip('{},\n').split(',')]
+        names = [n for n in listed if re.search(rf'(?<!\w){re.escape(n.split(" as ")[-1].strip("◌"))}(?!\w)', left)]
+        return f'{use.group(1)}{{{", ".join(names)}}};\n' if names else ''
+
+    return re.sub(r'^((?:ghost )?use [^\s{;]*?)(\{[^}]*\}|\w+(?: as \w+)?);\n', as_used, text, flags=re.M)
 
 
 class Place:
@@ -859,7 +870,7 @@ class Place:
                 (self.folder / 'crates' / p.name / 'src').mkdir(parents=True)
 
     def leave_laws(self, folder):
-        """Takes the functions and their proofs out of a crate."""
+        """Takes the functions and their proofs out of a crate. Its types stay, with their facts and what is derived for them."""
         for p in (folder / 'src').glob('*.rt'):
             p.write_text(without_functions(p.read_text()))
         for p in (folder / 'proofs').glob('*'):
